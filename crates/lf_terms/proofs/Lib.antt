@@ -1,0 +1,2 @@
+pub mod PlacesOfImages
+pub mod Tables

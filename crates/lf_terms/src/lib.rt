@@ -6,12 +6,14 @@
 pub mod bytes;
 pub mod ids;
 pub mod name;
+pub mod names;
 pub mod no_memory;
 pub mod words;
 
 pub use bytes::Bytes;
 pub use ids::Ids;
 pub use name::Name;
+pub use names::Names;
 pub use no_memory::NoMemory;
 pub use words::Words;
 
