@@ -11,6 +11,7 @@ mod reading;
 pub mod small;
 
 pub use declaration::Declaration;
+pub use reading::{a_flat_file_is_one, small_file};
 pub use small::{
     SmallConst, SmallConsts, SmallFault, SmallFile, SmallRule, SmallRules, SmallTheorem,
     SmallTheorems,
