@@ -9,6 +9,8 @@ mod grammar;
 mod number;
 mod reading;
 pub mod small;
+#[cfg(test)]
+mod tests;
 
 pub use declaration::Declaration;
 pub use reading::{a_flat_file_is_one, small_file};

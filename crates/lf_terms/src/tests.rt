@@ -3,6 +3,7 @@
 use crate::bytes::Bytes;
 use crate::ids::Ids;
 use crate::name::Name;
+use crate::names::Names;
 use crate::words::Words;
 use std::test::Fail;
 
@@ -21,5 +22,20 @@ fn lists_hold_what_went_in(rt: HostRuntime) -> Result<(), Fail> {
     for word in words.as_slice() {
         assert!(rt; word.is(b"prove"));
     }
+    Ok(())
+}
+
+#[test]
+fn names_are_found_at_their_places(rt: HostRuntime) -> Result<(), Fail> {
+    let alloc = rt.alloc();
+    let mut names = Names::new(alloc);
+    for name in ["and", "or", "imp"] {
+        if names.find(name.as_bytes()).is_none() {
+            names.add(alloc, name.as_bytes())?;
+        }
+    }
+    assert_eq!(rt; names.len(), 3);
+    assert_eq!(rt; names.find(b"imp"), Some(2));
+    assert_eq!(rt; names.find(b"im"), None);
     Ok(())
 }

@@ -1,0 +1,153 @@
+-- What was written of a right document is a front of one: what is left to write is always there.
+use Rattle.std.proofs.Common.{◌≡◌, ℕ, ◌+◌, ◌<◌, List, [], ◌∷◌, ◌++◌, length, refl, sym, subst, ap, ◌∙◌, arith, Some, None, Option, get_or, append_assoc, append-nil, Bool, true, false, cond, take, drop}
+use Rattle.std.specs.Prelude.{All}
+use Rattle.std.specs.Io.KnownBytes.{Appends}
+use Rattle.std.proofs.KnownBytes.{Appends-nil, Appends-trans}
+use Rattle.std.proofs.lemmas.Option.{slice_get-get_or}
+use Rattle.std.proofs.lemmas.List.{take_more, take-append-drop}
+use Rattle.std.proofs.lemmas.List.Elements.{All-head, All-tail, All-drop, All-same}
+use Rattle.run_io.specs.Moves.{AppendsFront}
+use Rattle.file_syntax.specs.declared.small.SmallFile.{SmallFile}
+use Rattle.file_syntax.specs.declared.small.SmallTheorem.{SmallTheorem}
+use Rattle.file_syntax.specs.FlatFile.{IsFlat}
+use Rattle.aesop_session.specs.declared.status.Status.{Status}
+use Rattle.aesop_session.specs.declared.status.Status.TheVariants.{AllProved, SomeStuck}
+use Rattle.aesop_session.specs.Choices.{AreChoices}
+use Rattle.aesop_session.specs.Documents.{Verdict, proved, stuck, verdict_of, proved_text, stuck_text, IsBlock, AreBlocks, nothing, next, status_of, first_line, last_line, WritesBlock, WritesBlockFront, WritesBlocks, WritesBlocksFront, WritesDocument, WritesDocumentFront}
+use Rattle.aesop_session.proofs.Blocks.{table_closes, proved_block, stuck_block}
+
+-- ---- fronts
+
+pub AppendsFront-nothing : (held : Option (List ℕ)) (text : List ℕ) → AppendsFront held held text
+AppendsFront-nothing held text = ([], (text, refl), Appends-nil held)
+
+pub AppendsFront-more : (held after : Option (List ℕ)) (text more : List ℕ) → AppendsFront held after text → AppendsFront held after (text ++ more)
+AppendsFront-more held after text more f =
+    (f.0, (f.1.0 ++ more, sym (append_assoc f.0 f.1.0 more) ∙ ap (λ (t : List ℕ). t ++ more) f.1.1), f.2)
+
+pub AppendsFront-after : (held middle after : Option (List ℕ)) (done text : List ℕ) → Appends held middle done → AppendsFront middle after text → AppendsFront held after (done ++ text)
+AppendsFront-after held middle after done text a f =
+    (done ++ f.0, (f.1.0, append_assoc done f.0 f.1.0 ∙ ap (λ (t : List ℕ). done ++ t) f.1.1), Appends-trans held middle after done f.0 a f.2)
+
+-- ---- blocks that are left to write
+
+block_at : (file : SmallFile) (table : List (Option ℕ)) (theorem : SmallTheorem) → IsFlat file → AreChoices file table → theorem.family < length file.families → (found : Option ℕ) → get_or table theorem.family None ≡ found → (verdict : Verdict) × (text : List ℕ) × IsBlock file theorem verdict text
+block_at file table theorem flat choices known (Some place) at =
+    let closes = table_closes file table theorem.family place choices known at in
+    (proved, proved_text theorem.name closes.constant.name closes.rule.name, proved_block file theorem place flat closes)
+block_at file table theorem flat choices known None at =
+    let within : theorem.family < length table = omega (arith, choices.size) in
+    (stuck, stuck_text theorem.name, stuck_block file theorem table choices (slice_get-get_or table theorem.family None within ∙ ap (λ o. Some o) at))
+
+-- each theorem has a right block
+pub right_block : (file : SmallFile) (table : List (Option ℕ)) (theorem : SmallTheorem) → IsFlat file → AreChoices file table → theorem.family < length file.families → (verdict : Verdict) × (text : List ℕ) × IsBlock file theorem verdict text
+right_block file table theorem flat choices known = block_at file table theorem flat choices known (get_or table theorem.family None) refl
+
+-- theorems have right blocks
+pub right_blocks : (file : SmallFile) (table : List (Option ℕ)) (theorems : List SmallTheorem) → IsFlat file → AreChoices file table → All (λ theorem. theorem.family < length file.families) theorems → (verdicts : List Verdict) × (blocks : List ℕ) × AreBlocks file theorems verdicts blocks
+right_blocks file table [] flat choices known = ([], [], nothing)
+right_blocks file table (theorem ∷ theorems) flat choices known =
+    let block = right_block file table theorem flat choices (All-head (λ t. t.family < length file.families) theorem theorems known) in
+    let blocks = right_blocks file table theorems flat choices (All-tail (λ t. t.family < length file.families) theorem theorems known) in
+    (block.0 ∷ blocks.0, block.1 ++ blocks.1, next theorem theorems block.0 blocks.0 block.1 blocks.1 (block.1 ++ blocks.1) block.2 blocks.2 refl)
+
+-- right blocks one after another are right blocks
+pub AreBlocks-append : (file : SmallFile) (ts us : List SmallTheorem) (vs ws : List Verdict) (a b : List ℕ) → AreBlocks file ts vs a → AreBlocks file us ws b → AreBlocks file (ts ++ us) (vs ++ ws) (a ++ b)
+AreBlocks-append file ts us vs ws a b nothing more = more
+AreBlocks-append file ts us vs ws a b (next t ts' v vs' block blocks _ is rest parts) more =
+    next t (ts' ++ us) v (vs' ++ ws) block (blocks ++ b) (a ++ b) is (AreBlocks-append file ts' us vs' ws blocks b rest more)
+    (ap (λ (x : List ℕ). x ++ b) parts ∙ append_assoc block blocks b)
+
+pub AreBlocks-one : (file : SmallFile) (t : SmallTheorem) (v : Verdict) (text : List ℕ) → IsBlock file t v text → AreBlocks file (t ∷ []) (v ∷ []) text
+AreBlocks-one file t v text is = next t [] v [] text [] text is nothing (sym (append-nil text))
+
+-- the status after one more verdict
+pub status_of-push : (vs : List Verdict) (is_proved : Bool) → cond is_proved (status_of vs) SomeStuck ≡ status_of (vs ++ verdict_of is_proved ∷ [])
+status_of-push [] true = refl
+status_of-push [] false = refl
+status_of-push (proved ∷ vs) is_proved = status_of-push vs is_proved
+status_of-push (stuck ∷ vs) true = refl
+status_of-push (stuck ∷ vs) false = refl
+
+-- ---- the loop over the theorems
+
+pub WritesBlocks-nothing : (file : SmallFile) (held : Option (List ℕ)) → WritesBlocks file [] held held AllProved
+WritesBlocks-nothing file held = record { verdicts = []; blocks = []; are_blocks = nothing; status_is = refl; taken = Appends-nil held }
+
+-- one more block
+pub WritesBlocks-push : (file : SmallFile) (ts : List SmallTheorem) (t : SmallTheorem) (held middle after : Option (List ℕ)) (status more : Status) (is_proved : Bool) →
+    WritesBlocks file ts held middle status → WritesBlock file t middle after is_proved → more ≡ cond is_proved status SomeStuck → WritesBlocks file (ts ++ t ∷ []) held after more
+WritesBlocks-push file ts t held middle after status more is_proved w b is = record {
+  verdicts = w.verdicts ++ verdict_of is_proved ∷ [];
+  blocks = w.blocks ++ b.0;
+  are_blocks = AreBlocks-append file ts (t ∷ []) w.verdicts (verdict_of is_proved ∷ []) w.blocks b.0 w.are_blocks (AreBlocks-one file t (verdict_of is_proved) b.0 b.1);
+  status_is = is ∙ ap (λ s. cond is_proved s SomeStuck) w.status_is ∙ status_of-push w.verdicts is_proved;
+  taken = Appends-trans held middle after w.blocks b.0 w.taken b.2;
+}
+
+-- a front of one more block is a front of all of them
+pub WritesBlocksFront-at : (file : SmallFile) (table : List (Option ℕ)) (ts us all : List SmallTheorem) (t : SmallTheorem) (held middle after : Option (List ℕ)) (status : Status) →
+    IsFlat file → AreChoices file table → All (λ theorem. theorem.family < length file.families) us → (ts ++ t ∷ []) ++ us ≡ all →
+    WritesBlocks file ts held middle status → WritesBlockFront file t middle after → WritesBlocksFront file all held after
+WritesBlocksFront-at file table ts us all t held middle after status flat choices known parts w f =
+    let rest = right_blocks file table us flat choices known in
+    let so_far = AreBlocks-append file ts (t ∷ []) w.verdicts (f.0 ∷ []) w.blocks f.1 w.are_blocks (AreBlocks-one file t f.0 f.1 f.2) in (
+      (w.verdicts ++ f.0 ∷ []) ++ rest.0,
+      (w.blocks ++ f.1) ++ rest.1,
+      subst (λ theorems. AreBlocks file theorems ((w.verdicts ++ f.0 ∷ []) ++ rest.0) ((w.blocks ++ f.1) ++ rest.1)) parts
+          (AreBlocks-append file (ts ++ t ∷ []) us (w.verdicts ++ f.0 ∷ []) rest.0 (w.blocks ++ f.1) rest.1 so_far rest.2),
+      AppendsFront-more held after (w.blocks ++ f.1) rest.1 (AppendsFront-after held middle after w.blocks f.1 w.taken f.3),
+    )
+
+-- the list up to a place, one more, and the rest
+pub parts_at : {A : Type 0} (xs ys : List A) (i : ℕ) (x : A) → xs ≡ ys → i < length xs → x ≡ get_or xs i x → (take i xs ++ x ∷ []) ++ drop (i + 1) xs ≡ ys
+parts_at {A = A} xs ys i x same within is =
+    ap (λ y. (take i xs ++ y ∷ []) ++ drop (i + 1) xs) is
+    ∙ ap (λ (zs : List A). zs ++ drop (i + 1) xs) (sym (take_more xs i x within))
+    ∙ take-append-drop (i + 1) xs ∙ same
+
+pub take_next : {A : Type 0} (xs : List A) (i : ℕ) (x : A) → i < length xs → x ≡ get_or xs i x → take i xs ++ x ∷ [] ≡ take (i + 1) xs
+take_next xs i x within is = ap (λ y. take i xs ++ y ∷ []) is ∙ sym (take_more xs i x within)
+
+-- ---- whole documents
+
+pub WritesDocument-whole : (file : SmallFile) (held first middle after : Option (List ℕ)) (status : Status) →
+    Appends held first first_line → WritesBlocks file file.theorems first middle status → Appends middle after last_line → WritesDocument file held after status
+WritesDocument-whole file held first middle after status a w z = (
+  (first_line ++ w.blocks) ++ last_line,
+  record { verdicts = w.verdicts; blocks = w.blocks; are_blocks = w.are_blocks; text_is = refl; status_is = w.status_is },
+  Appends-trans held middle after (first_line ++ w.blocks) last_line (Appends-trans held first middle first_line w.blocks a w.taken) z,
+)
+
+pub WritesDocumentFront-first : (file : SmallFile) (table : List (Option ℕ)) (held after : Option (List ℕ)) → IsFlat file → AreChoices file table →
+    AppendsFront held after first_line → WritesDocumentFront file held after
+WritesDocumentFront-first file table held after flat choices f =
+    let blocks = right_blocks file table file.theorems flat choices flat.theorem_families in (
+      status_of blocks.0,
+      (first_line ++ blocks.1) ++ last_line,
+      record { verdicts = blocks.0; blocks = blocks.1; are_blocks = blocks.2; text_is = refl; status_is = refl },
+      AppendsFront-more held after (first_line ++ blocks.1) last_line (AppendsFront-more held after first_line blocks.1 f),
+    )
+
+pub WritesDocumentFront-blocks : (file : SmallFile) (held first after : Option (List ℕ)) →
+    Appends held first first_line → WritesBlocksFront file file.theorems first after → WritesDocumentFront file held after
+WritesDocumentFront-blocks file held first after a f = (
+  status_of f.0,
+  (first_line ++ f.1) ++ last_line,
+  record { verdicts = f.0; blocks = f.1; are_blocks = f.2; text_is = refl; status_is = refl },
+  AppendsFront-more held after (first_line ++ f.1) last_line (AppendsFront-after held first after first_line f.1 a f.3),
+)
+
+pub WritesDocumentFront-last : (file : SmallFile) (held first middle after : Option (List ℕ)) (status : Status) →
+    Appends held first first_line → WritesBlocks file file.theorems first middle status → AppendsFront middle after last_line → WritesDocumentFront file held after
+WritesDocumentFront-last file held first middle after status a w z = (
+  status,
+  (first_line ++ w.blocks) ++ last_line,
+  record { verdicts = w.verdicts; blocks = w.blocks; are_blocks = w.are_blocks; text_is = refl; status_is = w.status_is },
+  AppendsFront-after held middle after (first_line ++ w.blocks) last_line (Appends-trans held first middle first_line w.blocks a w.taken) z,
+)
+
+-- the families of the theorems that are left are the file's
+pub known_rest : (file : SmallFile) (theorems : List SmallTheorem) (i : ℕ) → theorems ≡ file.theorems → IsFlat file → All (λ theorem. theorem.family < length file.families) (drop i theorems)
+known_rest file theorems i same flat =
+    All-drop (λ theorem. theorem.family < length file.families) i theorems (All-same (λ theorem. theorem.family < length file.families) theorems file.theorems same flat.theorem_families)

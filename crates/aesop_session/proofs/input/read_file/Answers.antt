@@ -1,0 +1,7 @@
+use Rattle.std.proofs.Common.{subst, inl}
+use Rattle.file_syntax.specs.FlatFile.{IsNoFlatFile}
+use Rattle.aesop_session.proofs.input.read_file.Goals as goal
+
+pub returns-in-Err-Unsupported-clause-refused : goal.returns-in-Err-Unsupported-clause-refused
+returns-in-Err-Unsupported-clause-refused g c = λ e.
+    inl (c.in-Ok.input, c.in-Ok.ensures.all, subst IsNoFlatFile c.as_slice.ensures (c.in-Err-Unsupported.ensures.refused (cc)))

@@ -1,0 +1,110 @@
+-- The text of right answers to a flat file.
+use Rattle.std.specs.Prelude.{◌≡◌, ℕ, List, [], ◌∷◌, ◌++◌, codes, Bool, true, false, Option}
+use Rattle.std.specs.Io.KnownBytes.{Appends}
+use Rattle.run_io.specs.Moves.{AppendsFront}
+use Rattle.file_syntax.specs.declared.small.SmallFile.{SmallFile}
+use Rattle.file_syntax.specs.declared.small.SmallConst.{SmallConst}
+use Rattle.file_syntax.specs.declared.small.SmallRule.{SmallRule}
+use Rattle.file_syntax.specs.declared.small.SmallTheorem.{SmallTheorem}
+use Rattle.aesop_session.specs.declared.status.Status.{Status}
+use Rattle.aesop_session.specs.declared.status.Status.TheVariants.{AllProved, SomeStuck}
+use Rattle.aesop_session.specs.Derivations.{IsRule, Derivation, HasNoDerivation}
+
+-- these bytes and a line feed
+abbrev pub line : List ℕ → List ℕ
+line bytes = bytes ++ 10 ∷ []
+
+abbrev pub first_line : List ℕ
+first_line = line (codes "aesop 1 budget 1000")
+
+abbrev pub last_line : List ℕ
+last_line = line (codes "end")
+
+-- what is answered for a theorem
+pub data Verdict : Type 0 where
+  proved : Verdict
+  stuck : Verdict
+
+abbrev pub verdict_of : (is_proved : Bool) → Verdict
+verdict_of true = proved
+verdict_of false = stuck
+
+-- the block of a theorem that one rule closes with its constant
+abbrev pub proved_text : (theorem constant rule : List ℕ) → List ℕ
+proved_text theorem constant rule =
+    line (codes "theorem " ++ theorem ++ codes " proved") ++ line (codes "term " ++ constant) ++ line (codes "step unsafe " ++ rule)
+
+abbrev pub stuck_text : (theorem : List ℕ) → List ℕ
+stuck_text theorem = line (codes "theorem " ++ theorem ++ codes " stuck")
+
+-- The block says that the theorem has a derivation: one rule, which leaves no goal, and the constant as the term.
+pub record IsProvedBlock (file : SmallFile) (theorem : SmallTheorem) (text : List ℕ) : Type 0 where
+  pub number : ℕ
+  pub rule : SmallRule
+  pub constant : SmallConst
+  pub is_rule : IsRule file number rule constant
+  pub derivation : Derivation file (theorem.family ∷ []) (number ∷ [])
+  pub text_is : text ≡ proved_text theorem.name constant.name rule.name
+
+-- The block says that the theorem has no derivation.
+pub record IsStuckBlock (file : SmallFile) (theorem : SmallTheorem) (text : List ℕ) : Type 0 where
+  pub none : HasNoDerivation file theorem.family
+  pub text_is : text ≡ stuck_text theorem.name
+
+-- The block is right for the theorem.
+abbrev pub IsBlock : SmallFile → SmallTheorem → Verdict → List ℕ → Type 0
+IsBlock file theorem proved text = IsProvedBlock file theorem text
+IsBlock file theorem stuck text = IsStuckBlock file theorem text
+
+-- One right block for each theorem, in order.
+pub data AreBlocks (file : SmallFile) : List SmallTheorem → List Verdict → List ℕ → Type 0 where
+  nothing : AreBlocks file [] [] []
+  next : (theorem : SmallTheorem) (theorems : List SmallTheorem) (verdict : Verdict) (verdicts : List Verdict) (block blocks text : List ℕ) →
+      IsBlock file theorem verdict block → AreBlocks file theorems verdicts blocks → text ≡ block ++ blocks →
+      AreBlocks file (theorem ∷ theorems) (verdict ∷ verdicts) text
+
+-- the status of a document: whether a block is stuck
+abbrev pub status_of : List Verdict → Status
+status_of [] = AllProved
+status_of (proved ∷ verdicts) = status_of verdicts
+status_of (stuck ∷ verdicts) = SomeStuck
+
+-- The text is a right document for the file, with this status.
+pub record IsDocument (file : SmallFile) (status : Status) (text : List ℕ) : Type 0 where
+  pub verdicts : List Verdict
+  pub blocks : List ℕ
+  pub are_blocks : AreBlocks file file.theorems verdicts blocks
+  pub text_is : text ≡ first_line ++ blocks ++ last_line
+  pub status_is : status ≡ status_of verdicts
+
+-- These bytes are added, and are the theorem's block, with this verdict.
+abbrev pub AddsBlock : SmallFile → SmallTheorem → (old new : List ℕ) → Bool → Type 0
+AddsBlock file theorem old new is_proved = (text : List ℕ) × IsBlock file theorem (verdict_of is_proved) text × (new ≡ old ++ text)
+
+-- The sink took the theorem's block, with this verdict.
+abbrev pub WritesBlock : SmallFile → SmallTheorem → (held after : Option (List ℕ)) → Bool → Type 0
+WritesBlock file theorem held after is_proved = (text : List ℕ) × IsBlock file theorem (verdict_of is_proved) text × Appends held after text
+
+-- The sink took a front of a right block of the theorem.
+abbrev pub WritesBlockFront : SmallFile → SmallTheorem → (held after : Option (List ℕ)) → Type 0
+WritesBlockFront file theorem held after = (verdict : Verdict) × (text : List ℕ) × IsBlock file theorem verdict text × AppendsFront held after text
+
+-- The sink took right blocks of the theorems, with this status.
+pub record WritesBlocks (file : SmallFile) (theorems : List SmallTheorem) (held after : Option (List ℕ)) (status : Status) : Type 0 where
+  pub verdicts : List Verdict
+  pub blocks : List ℕ
+  pub are_blocks : AreBlocks file theorems verdicts blocks
+  pub status_is : status ≡ status_of verdicts
+  pub taken : Appends held after blocks
+
+-- The sink took a front of right blocks of the theorems.
+abbrev pub WritesBlocksFront : SmallFile → List SmallTheorem → (held after : Option (List ℕ)) → Type 0
+WritesBlocksFront file theorems held after = (verdicts : List Verdict) × (blocks : List ℕ) × AreBlocks file theorems verdicts blocks × AppendsFront held after blocks
+
+-- The sink took a right document, with this status.
+abbrev pub WritesDocument : SmallFile → (held after : Option (List ℕ)) → Status → Type 0
+WritesDocument file held after status = (text : List ℕ) × IsDocument file status text × Appends held after text
+
+-- The sink took a front of a right document.
+abbrev pub WritesDocumentFront : SmallFile → (held after : Option (List ℕ)) → Type 0
+WritesDocumentFront file held after = (status : Status) × (text : List ℕ) × IsDocument file status text × AppendsFront held after text

@@ -1,0 +1,145 @@
+//! Writing the answers to a file.
+
+ghost use Rattle.std.specs.Prelude.{◌≡◌, ◌≤◌, ◌<◌, ◌⊎◌, IfOk, OnOk, OnErr, IsErrOf, length, if◌then◌else◌};
+ghost use Rattle.std.specs.Io.KnownBytes.{Appends};
+ghost use Rattle.run_io.specs.Causes.{Rose};
+ghost use Rattle.run_io.specs.Moves.{AppendsFront};
+ghost use Rattle.file_syntax.specs.FlatFile.{IsFlat};
+ghost use Rattle.aesop_session.specs.Choices.{AreChoices};
+ghost use Rattle.aesop_session.specs.Documents.{WritesBlock, WritesBlockFront, WritesBlocks, WritesBlocksFront, WritesDocument, WritesDocumentFront};
+
+use crate::block::append_block;
+use crate::status::Status;
+use file_syntax::{SmallFile, SmallTheorem};
+use lf_terms::{Bytes, NoMemory};
+use run_io::{Sink, WriteEnd, write_piece};
+use std::alloc::Global;
+
+/// Why a text was not written whole.
+#[derive(Clone, Copy, Debug, PartialEq, Eq)]
+pub(crate) enum Stop {
+    /// The sink failed, or took nothing of a piece.
+    Write,
+    /// Memory ran out.
+    NoMemory,
+}
+
+impl From<NoMemory> for Stop {
+    ghost use Rattle.std.specs.Prelude.{◌≡◌};
+    ghost use Rattle.aesop_session.specs.declared.document.Stop.TheVariants as stops;
+
+    ghost from_gives = { λ _ stop. stop ≡ stops.NoMemory };
+
+    fn from(_error: NoMemory) -> Stop {
+        Stop::NoMemory
+    }
+}
+
+/// Writes a piece whole, or tells that it was not.
+pub(crate) fn write_text<K: Sink>(sink: &mut K, bytes: &[u8]) -> Result<(), Stop>
+    ensures ok { OnOk result (Appends (K.held sink.old) (K.held sink.new) bytes.now) }
+    ensures err { OnErr result (AppendsFront (K.held sink.old) (K.held sink.new) bytes.now) }
+    ensures cause { OnErr result (Rose (K.faults sink.old) (K.faults sink.new) ⊎ Rose (K.zeros sink.old) (K.zeros sink.new)) }
+    ensures stop { OnErr result (result ≡ Err Stop.Write) }
+    ensures faults_later { K.faults sink.old ≤ K.faults sink.new }
+    ensures zeros_later { K.zeros sink.old ≤ K.zeros sink.new }
+{
+    match write_piece(sink, bytes) {
+        Ok(()) => Ok(()),
+        Err(WriteEnd::Fault) => Err(Stop::Write),
+        Err(WriteEnd::Took0) => Err(Stop::Write),
+    }
+}
+
+/// Answers a theorem: whether it is proved. Its block is written as one piece.
+fn answer_theorem<K: Sink>(
+    block: &mut Bytes,
+    file: &SmallFile,
+    choices: &[Option<usize>],
+    theorem: &SmallTheorem,
+    sink: &mut K,
+) -> Result<bool, Stop>
+    requires table { AreChoices file.now choices.now }
+    requires family { theorem.now.family < length file.now.families }
+    requires flat { IsFlat file.now }
+    ensures ok { IfOk result (WritesBlock file.now theorem.now (K.held sink.old) (K.held sink.new)) }
+    ensures err { OnErr result (WritesBlockFront file.now theorem.now (K.held sink.old) (K.held sink.new)) }
+    ensures cause { IsErrOf result Stop.Write →
+        Rose (K.faults sink.old) (K.faults sink.new) ⊎ Rose (K.zeros sink.old) (K.zeros sink.new) }
+    ensures faults_later { K.faults sink.old ≤ K.faults sink.new }
+    ensures zeros_later { K.zeros sink.old ≤ K.zeros sink.new }
+{
+    block.clear();
+    let is_proved = match append_block(block, file, choices, theorem) {
+        Ok(is_proved) => is_proved,
+        Err(_) => return Err(Stop::NoMemory),
+    };
+    match write_text(sink, block.as_slice()) {
+        Ok(()) => Ok(is_proved),
+        Err(stop) => Err(stop),
+    }
+}
+
+/// Answers all theorems in order. The status says whether one of them is stuck.
+fn write_blocks<K: Sink>(
+    alloc: Global,
+    file: &SmallFile,
+    choices: &[Option<usize>],
+    sink: &mut K,
+) -> Result<Status, Stop>
+    requires table { AreChoices file.now choices.now }
+    requires flat { IsFlat file.now }
+    ensures ok { IfOk result (WritesBlocks file.now file.now.theorems (K.held sink.old) (K.held sink.new)) }
+    ensures err { OnErr result (WritesBlocksFront file.now file.now.theorems (K.held sink.old) (K.held sink.new)) }
+    ensures cause { IsErrOf result Stop.Write →
+        Rose (K.faults sink.old) (K.faults sink.new) ⊎ Rose (K.zeros sink.old) (K.zeros sink.new) }
+    ensures faults_later { K.faults sink.old ≤ K.faults sink.new }
+    ensures zeros_later { K.zeros sink.old ≤ K.zeros sink.new }
+{
+    let mut block = Bytes::new(alloc);
+    let mut status = Status::AllProved;
+    for theorem in file.theorems.as_slice() {
+        match answer_theorem(&mut block, file, choices, theorem, sink) {
+            Ok(is_proved) => status = status_after(status, is_proved),
+            Err(stop) => return Err(stop),
+        }
+    }
+    Ok(status)
+}
+
+/// The status after one more theorem.
+fn status_after(status: Status, is_proved: bool) -> Status
+    ensures { result ≡ (if is_proved then status else Status.SomeStuck) }
+{
+    if is_proved { status } else { Status::SomeStuck }
+}
+
+/// Writes the answers to a file: the first line, a block for each theorem in order, and the last
+/// line, each as one piece.
+pub(crate) fn write_document<K: Sink>(
+    alloc: Global,
+    file: &SmallFile,
+    choices: &[Option<usize>],
+    sink: &mut K,
+) -> Result<Status, Stop>
+    requires table { AreChoices file.now choices.now }
+    requires flat { IsFlat file.now }
+    ensures ok { IfOk result (WritesDocument file.now (K.held sink.old) (K.held sink.new)) }
+    ensures err { OnErr result (WritesDocumentFront file.now (K.held sink.old) (K.held sink.new)) }
+    ensures cause { IsErrOf result Stop.Write →
+        Rose (K.faults sink.old) (K.faults sink.new) ⊎ Rose (K.zeros sink.old) (K.zeros sink.new) }
+    ensures faults_later { K.faults sink.old ≤ K.faults sink.new }
+    ensures zeros_later { K.zeros sink.old ≤ K.zeros sink.new }
+{
+    if let Err(stop) = write_text(sink, b"aesop 1 budget 1000\n") {
+        return Err(stop);
+    }
+    let status = match write_blocks(alloc, file, choices, sink) {
+        Ok(status) => status,
+        Err(stop) => return Err(stop),
+    };
+    match write_text(sink, b"end\n") {
+        Ok(()) => Ok(status),
+        Err(stop) => Err(stop),
+    }
+}

@@ -1,0 +1,174 @@
+//! Worked rows, over sources and sinks in memory.
+
+use crate::run_still;
+use lf_terms::{Bytes, Ids, Name, NoMemory, Words};
+use run_io::{MemorySink, MemorySource, SureSink, SureSource};
+use std::alloc::Global;
+use std::test::Fail;
+
+/// The smallest file with something to prove.
+fn first_file() -> &'static str {
+    "family p : type. const a : p. rule ra : unsafe 50 apply a. theorem t : p."
+}
+
+/// Its answer, where ` / ` stands for a line end.
+fn first_answer() -> &'static str {
+    "aesop 1 budget 1000 / theorem t proved / term a / step unsafe ra / end"
+}
+
+/// Files with the status and the text of their answers, where ` / ` stands for a line end.
+fn files() -> &'static str {
+    "\
+=> 0 => aesop 1 budget 1000 / end
+family p : type. => 0 => aesop 1 budget 1000 / end
+family p : type. theorem t : p. => 1 => aesop 1 budget 1000 / theorem t stuck / end
+family p : type. family q : type. const a : p. rule r : unsafe 0 apply a. theorem t : p. theorem u : q. => 1 => aesop 1 budget 1000 / theorem t proved / term a / step unsafe r / theorem u stuck / end
+family p : type. const a : p. rule r : unsafe -0 apply a. rule s : unsafe 0100 apply a. theorem t : p. => 0 => aesop 1 budget 1000 / theorem t proved / term a / step unsafe r / end
+family rule : type. const unsafe : rule. rule apply : unsafe 1 apply unsafe. theorem theorem : rule. => 0 => aesop 1 budget 1000 / theorem theorem proved / term unsafe / step unsafe apply / end
+family p : type. theorem t : p -> p. => 3 => refused at 0: unsupported
+family p : type. const a : p. rule r : safe 50 apply a. => 3 => refused at 0: unsupported
+family p : type. const a : p. rule r : unsafe 101 apply a. => 3 => refused at 0: unsupported
+family p : type. const a : p. rule r : unsafe -1 apply a. => 3 => refused at 0: unsupported
+family p : type. family p : type. => 3 => refused at 0: unsupported
+family p : type. const p : p. => 3 => refused at 0: unsupported
+const a : p. family p : type. => 3 => refused at 0: unsupported
+family p : type. const a : p. rule hyps : unsafe 1 apply a. => 3 => refused at 0: unsupported
+family type : type. => 3 => refused at 0: unsupported
+family p : type => 3 => refused at 0: unsupported
+family p # type. => 3 => refused at 0: unsupported
+family \u{e9} : type. => 3 => refused at 0: unsupported"
+}
+
+fn usage() -> &'static str {
+    "usage: aesop prove [--workers N] [--budget N] [--trace] | check | gen N | big N"
+}
+
+/// Command lines that are not the one that is served.
+fn other_lines() -> &'static str {
+    "\nprove\nprove --workers 1\nprove --workers 0 --trace\ncheck"
+}
+
+fn words_of(alloc: Global, text: &str) -> Result<Words, NoMemory> {
+    let mut words = Words::new(alloc);
+    for word in text.split_whitespace() {
+        words.push(Name::from_slice(alloc, word.as_bytes())?)?;
+    }
+    Ok(words)
+}
+
+/// The text with a line end for each ` / ` and at its end.
+fn lines_of(alloc: Global, text: &str) -> Result<Bytes, NoMemory> {
+    let mut lines = Bytes::new(alloc);
+    for line in text.split(" / ") {
+        lines.append(line.as_bytes())?;
+        lines.push(b'\n')?;
+    }
+    Ok(lines)
+}
+
+/// The status of the file over a source with pieces of 7 and a sink with pieces of 5, and what the sink holds.
+fn answer_of(alloc: Global, file: &[u8]) -> Result<(u8, Bytes), NoMemory> {
+    let words = words_of(alloc, "prove --workers 0")?;
+    let bytes = Bytes::from_slice(alloc, file)?;
+    let mut source = MemorySource::new(bytes, 7, Ids::new(alloc));
+    let mut sink = MemorySink::new(alloc, 4096, 5, Ids::new(alloc))?;
+    let status = run_still(alloc, &words, &mut source, &mut sink);
+    Ok((status.code(), Bytes::from_slice(alloc, sink.held())?))
+}
+
+/// The same for the first file, where the source fails at one call and the sink at another.
+fn faulty_answer(
+    alloc: Global,
+    source_fault: u32,
+    piece: usize,
+    sink_fault: u32,
+) -> Result<(u8, Bytes), NoMemory> {
+    let words = words_of(alloc, "prove --workers 0")?;
+    let bytes = Bytes::from_slice(alloc, first_file().as_bytes())?;
+    let mut source = MemorySource::new(bytes, 8, one_of(alloc, source_fault)?);
+    let mut sink = MemorySink::new(alloc, 100, piece, one_of(alloc, sink_fault)?)?;
+    let status = run_still(alloc, &words, &mut source, &mut sink);
+    Ok((status.code(), Bytes::from_slice(alloc, sink.held())?))
+}
+
+fn one_of(alloc: Global, id: u32) -> Result<Ids, NoMemory> {
+    let mut ids = Ids::new(alloc);
+    ids.push(id)?;
+    Ok(ids)
+}
+
+/// The same over ends that never fail, for any words and bytes, with what the source has left.
+fn sure_answer(alloc: Global, line: &str, bytes: Bytes) -> Result<(u8, Bytes, usize), NoMemory> {
+    let words = words_of(alloc, line)?;
+    let mut source = SureSource::new(bytes);
+    let mut sink = SureSink::with_room(alloc, 100)?;
+    let status = run_still(alloc, &words, &mut source, &mut sink);
+    let held = Bytes::from_slice(alloc, sink.held())?;
+    Ok((status.code(), held, source.left().len()))
+}
+
+#[test]
+fn files_are_answered(rt: HostRuntime) -> Result<(), Fail> {
+    let alloc = rt.alloc();
+    for row in files().lines() {
+        let (file, rest) = row.split_once("=> ").ok_or("no file")?;
+        let (status, answer) = rest.split_once(" => ").ok_or("no status")?;
+        let (code, held) = answer_of(alloc, file.as_bytes())?;
+        assert_eq!(rt; code, status.parse::<u8>()?, "{row}");
+        let expected = lines_of(alloc, answer)?;
+        assert_eq!(rt; held.as_slice(), expected.as_slice(), "{row}");
+    }
+    Ok(())
+}
+
+#[test]
+fn a_sure_sink_takes_the_first_file(rt: HostRuntime) -> Result<(), Fail> {
+    let alloc = rt.alloc();
+    let bytes = Bytes::from_slice(alloc, first_file().as_bytes())?;
+    let (code, held, left) = sure_answer(alloc, "prove --workers 0", bytes)?;
+    let expected = lines_of(alloc, first_answer())?;
+    assert_eq!(rt; code, 0);
+    assert_eq!(rt; left, 0);
+    assert_eq!(rt; held.as_slice(), expected.as_slice());
+    Ok(())
+}
+
+#[test]
+fn faults_have_their_statuses(rt: HostRuntime) -> Result<(), Fail> {
+    let alloc = rt.alloc();
+    let (code, held) = faulty_answer(alloc, 1, 100, 1000)?;
+    assert_eq!(rt; code, 6);
+    assert_eq!(rt; held.len(), 0);
+    let (code, held) = faulty_answer(alloc, 1000, 0, 1000)?;
+    assert_eq!(rt; code, 7);
+    assert_eq!(rt; held.len(), 0);
+    let (code, held) = faulty_answer(alloc, 1000, 100, 1)?;
+    assert_eq!(rt; code, 7);
+    assert_eq!(rt; held.as_slice(), b"aesop 1 budget 1000\n".as_slice());
+    Ok(())
+}
+
+#[test]
+fn other_words_are_usage(rt: HostRuntime) -> Result<(), Fail> {
+    let alloc = rt.alloc();
+    let expected = lines_of(alloc, usage())?;
+    for line in other_lines().lines() {
+        let bytes = Bytes::from_slice(alloc, b"family")?;
+        let (code, held, left) = sure_answer(alloc, line, bytes)?;
+        assert_eq!(rt; code, 4, "{line}");
+        assert_eq!(rt; left, 6);
+        assert_eq!(rt; held.as_slice(), expected.as_slice());
+    }
+    Ok(())
+}
+
+#[test]
+fn the_limit_is_a_number_of_bytes(rt: HostRuntime) -> Result<(), Fail> {
+    let alloc = rt.alloc();
+    for (size, status) in [(4_194_304, 0), (4_194_305, 3)] {
+        let spaces = Bytes::from_vec(vec![in alloc; b' '; size]?);
+        let (code, _, _) = sure_answer(alloc, "prove --workers 0", spaces)?;
+        assert_eq!(rt; code, status);
+    }
+    Ok(())
+}
