@@ -1,20 +1,18 @@
 -- What was written of a right document is a front of one: what is left to write is always there.
-use Rattle.std.proofs.Common.{◌≡◌, ℕ, ◌+◌, ◌<◌, List, [], ◌∷◌, ◌++◌, length, refl, sym, subst, ap, ◌∙◌, arith, Some, None, Option, get_or, append_assoc, append-nil, Bool, true, false, cond, take, drop}
-use Rattle.std.specs.Prelude.{All}
+use Rattle.std.proofs.Common.{◌≡◌, ℕ, ◌+◌, ◌<◌, List, [], ◌∷◌, ◌++◌, length, refl, sym, subst, ap, ◌∙◌, Some, None, Option, get_or, append_assoc, append-nil, Bool, true, false, cond, take, drop}
 use Rattle.std.specs.Io.KnownBytes.{Appends}
 use Rattle.std.proofs.KnownBytes.{Appends-nil, Appends-trans}
-use Rattle.std.proofs.lemmas.Option.{slice_get-get_or}
 use Rattle.std.proofs.lemmas.List.{take_more, take-append-drop}
-use Rattle.std.proofs.lemmas.List.Elements.{All-head, All-tail, All-drop, All-same}
 use Rattle.run_io.specs.Moves.{AppendsFront}
 use Rattle.file_syntax.specs.declared.small.SmallFile.{SmallFile}
 use Rattle.file_syntax.specs.declared.small.SmallTheorem.{SmallTheorem}
 use Rattle.file_syntax.specs.FlatFile.{IsFlat}
 use Rattle.aesop_session.specs.declared.status.Status.{Status}
 use Rattle.aesop_session.specs.declared.status.Status.TheVariants.{AllProved, SomeStuck}
-use Rattle.aesop_session.specs.Choices.{AreChoices}
+use Rattle.small_search.specs.declared.closing.Closing.{Closing}
+use Rattle.small_search.specs.Closings.{Closings, closing_of, IsTable}
 use Rattle.aesop_session.specs.Documents.{Verdict, proved, stuck, verdict_of, proved_text, stuck_text, IsBlock, AreBlocks, nothing, next, status_of, first_line, last_line, WritesBlock, WritesBlockFront, WritesBlocks, WritesBlocksFront, WritesDocument, WritesDocumentFront}
-use Rattle.aesop_session.proofs.Blocks.{table_closes, proved_block, stuck_block}
+use Rattle.aesop_session.proofs.Blocks.{choice_of, proved_block, stuck_block}
 
 -- ---- fronts
 
@@ -31,24 +29,22 @@ AppendsFront-after held middle after done text a f =
 
 -- ---- blocks that are left to write
 
-block_at : (file : SmallFile) (table : List (Option ℕ)) (theorem : SmallTheorem) → IsFlat file → AreChoices file table → theorem.family < length file.families → (found : Option ℕ) → get_or table theorem.family None ≡ found → (verdict : Verdict) × (text : List ℕ) × IsBlock file theorem verdict text
-block_at file table theorem flat choices known (Some place) at =
-    let closes = table_closes file table theorem.family place choices known at in
-    (proved, proved_text theorem.name closes.constant.name closes.rule.name, proved_block file theorem place flat closes)
-block_at file table theorem flat choices known None at =
-    let within : theorem.family < length table = omega (arith, choices.size) in
-    (stuck, stuck_text theorem.name, stuck_block file theorem table choices (slice_get-get_or table theorem.family None within ∙ ap (λ o. Some o) at))
+block_at : (file : SmallFile) (table : Closings) (theorem : SmallTheorem) → IsFlat file → IsTable file table → (found : Option Closing) → closing_of table.by_family theorem.family ≡ found → (verdict : Verdict) × (text : List ℕ) × IsBlock file theorem verdict text
+block_at file table theorem flat is_table (Some closing) at =
+    let closes = choice_of file table theorem.family closing is_table at in
+    (proved, proved_text theorem.name closes.choice.constant.name closes.choice.rule.name, proved_block file theorem closing.rule closes.left flat closes.choice)
+block_at file table theorem flat is_table None at = (stuck, stuck_text theorem.name, stuck_block file theorem table is_table at)
 
 -- each theorem has a right block
-pub right_block : (file : SmallFile) (table : List (Option ℕ)) (theorem : SmallTheorem) → IsFlat file → AreChoices file table → theorem.family < length file.families → (verdict : Verdict) × (text : List ℕ) × IsBlock file theorem verdict text
-right_block file table theorem flat choices known = block_at file table theorem flat choices known (get_or table theorem.family None) refl
+pub right_block : (file : SmallFile) (table : Closings) (theorem : SmallTheorem) → IsFlat file → IsTable file table → (verdict : Verdict) × (text : List ℕ) × IsBlock file theorem verdict text
+right_block file table theorem flat is_table = block_at file table theorem flat is_table (closing_of table.by_family theorem.family) refl
 
 -- theorems have right blocks
-pub right_blocks : (file : SmallFile) (table : List (Option ℕ)) (theorems : List SmallTheorem) → IsFlat file → AreChoices file table → All (λ theorem. theorem.family < length file.families) theorems → (verdicts : List Verdict) × (blocks : List ℕ) × AreBlocks file theorems verdicts blocks
-right_blocks file table [] flat choices known = ([], [], nothing)
-right_blocks file table (theorem ∷ theorems) flat choices known =
-    let block = right_block file table theorem flat choices (All-head (λ t. t.family < length file.families) theorem theorems known) in
-    let blocks = right_blocks file table theorems flat choices (All-tail (λ t. t.family < length file.families) theorem theorems known) in
+pub right_blocks : (file : SmallFile) (table : Closings) (theorems : List SmallTheorem) → IsFlat file → IsTable file table → (verdicts : List Verdict) × (blocks : List ℕ) × AreBlocks file theorems verdicts blocks
+right_blocks file table [] flat is_table = ([], [], nothing)
+right_blocks file table (theorem ∷ theorems) flat is_table =
+    let block = right_block file table theorem flat is_table in
+    let blocks = right_blocks file table theorems flat is_table in
     (block.0 ∷ blocks.0, block.1 ++ blocks.1, next theorem theorems block.0 blocks.0 block.1 blocks.1 (block.1 ++ blocks.1) block.2 blocks.2 refl)
 
 -- right blocks one after another are right blocks
@@ -86,11 +82,11 @@ WritesBlocks-push file ts t held middle after status more is_proved w b is = rec
 }
 
 -- a front of one more block is a front of all of them
-pub WritesBlocksFront-at : (file : SmallFile) (table : List (Option ℕ)) (ts us all : List SmallTheorem) (t : SmallTheorem) (held middle after : Option (List ℕ)) (status : Status) →
-    IsFlat file → AreChoices file table → All (λ theorem. theorem.family < length file.families) us → (ts ++ t ∷ []) ++ us ≡ all →
+pub WritesBlocksFront-at : (file : SmallFile) (table : Closings) (ts us all : List SmallTheorem) (t : SmallTheorem) (held middle after : Option (List ℕ)) (status : Status) →
+    IsFlat file → IsTable file table → (ts ++ t ∷ []) ++ us ≡ all →
     WritesBlocks file ts held middle status → WritesBlockFront file t middle after → WritesBlocksFront file all held after
-WritesBlocksFront-at file table ts us all t held middle after status flat choices known parts w f =
-    let rest = right_blocks file table us flat choices known in
+WritesBlocksFront-at file table ts us all t held middle after status flat is_table parts w f =
+    let rest = right_blocks file table us flat is_table in
     let so_far = AreBlocks-append file ts (t ∷ []) w.verdicts (f.0 ∷ []) w.blocks f.1 w.are_blocks (AreBlocks-one file t f.0 f.1 f.2) in (
       (w.verdicts ++ f.0 ∷ []) ++ rest.0,
       (w.blocks ++ f.1) ++ rest.1,
@@ -119,10 +115,10 @@ WritesDocument-whole file held first middle after status a w z = (
   Appends-trans held middle after (first_line ++ w.blocks) last_line (Appends-trans held first middle first_line w.blocks a w.taken) z,
 )
 
-pub WritesDocumentFront-first : (file : SmallFile) (table : List (Option ℕ)) (held after : Option (List ℕ)) → IsFlat file → AreChoices file table →
+pub WritesDocumentFront-first : (file : SmallFile) (table : Closings) (held after : Option (List ℕ)) → IsFlat file → IsTable file table →
     AppendsFront held after first_line → WritesDocumentFront file held after
-WritesDocumentFront-first file table held after flat choices f =
-    let blocks = right_blocks file table file.theorems flat choices flat.theorem_families in (
+WritesDocumentFront-first file table held after flat is_table f =
+    let blocks = right_blocks file table file.theorems flat is_table in (
       status_of blocks.0,
       (first_line ++ blocks.1) ++ last_line,
       record { verdicts = blocks.0; blocks = blocks.1; are_blocks = blocks.2; text_is = refl; status_is = refl },
@@ -146,8 +142,3 @@ WritesDocumentFront-last file held first middle after status a w z = (
   record { verdicts = w.verdicts; blocks = w.blocks; are_blocks = w.are_blocks; text_is = refl; status_is = w.status_is },
   AppendsFront-after held middle after (first_line ++ w.blocks) last_line (Appends-trans held first middle first_line w.blocks a w.taken) z,
 )
-
--- the families of the theorems that are left are the file's
-pub known_rest : (file : SmallFile) (theorems : List SmallTheorem) (i : ℕ) → theorems ≡ file.theorems → IsFlat file → All (λ theorem. theorem.family < length file.families) (drop i theorems)
-known_rest file theorems i same flat =
-    All-drop (λ theorem. theorem.family < length file.families) i theorems (All-same (λ theorem. theorem.family < length file.families) theorems file.theorems same flat.theorem_families)

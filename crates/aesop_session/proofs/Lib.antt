@@ -1,4 +1,3 @@
-pub mod Tables
 pub mod Blocks
 pub mod Completion
 pub mod Answering

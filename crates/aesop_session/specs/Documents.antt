@@ -8,7 +8,7 @@ use Rattle.file_syntax.specs.declared.small.SmallRule.{SmallRule}
 use Rattle.file_syntax.specs.declared.small.SmallTheorem.{SmallTheorem}
 use Rattle.aesop_session.specs.declared.status.Status.{Status}
 use Rattle.aesop_session.specs.declared.status.Status.TheVariants.{AllProved, SomeStuck}
-use Rattle.aesop_session.specs.Derivations.{IsRule, Derivation, HasNoDerivation}
+use Rattle.small_search.specs.Derivations.{IsRule, Derivation, HasNoDerivation}
 
 -- these bytes and a line feed
 abbrev pub line : List ℕ → List ℕ

@@ -1,28 +1,28 @@
 //! The text of a theorem's block.
 
-ghost use Rattle.std.specs.Prelude.{◌≡◌, ◌++◌, ◌<◌, IfOk, OnOk, length};
+ghost use Rattle.std.specs.Prelude.{◌≡◌, ◌++◌, IfOk, OnOk};
 ghost use Rattle.file_syntax.specs.FlatFile.{IsFlat};
-ghost use Rattle.aesop_session.specs.Choices.{AreChoices};
+ghost use Rattle.small_search.specs.Closings.{IsTable};
 ghost use Rattle.aesop_session.specs.Documents.{proved_text, stuck_text, AddsBlock};
 
 use file_syntax::{SmallFile, SmallTheorem};
 use lf_terms::{Bytes, NoMemory};
+use small_search::Table;
 
 /// Adds the block of a theorem at the end, and answers whether the theorem is proved.
 pub(crate) fn append_block(
     out: &mut Bytes,
     file: &SmallFile,
-    choices: &[Option<usize>],
+    table: &Table,
     theorem: &SmallTheorem,
 ) -> Result<bool, NoMemory>
-    requires table { AreChoices file.now choices.now }
-    requires family { theorem.now.family < length file.now.families }
+    requires table { IsTable file.now table.now }
     requires flat { IsFlat file.now }
     ensures { IfOk result (AddsBlock file.now theorem.now out.old out.new) }
 {
-    match choices[theorem.family as usize] {
-        Some(place) => {
-            let rule = &file.rules.as_slice()[place];
+    match table.closing(theorem.family) {
+        Some(closing) => {
+            let rule = &file.rules.as_slice()[closing.rule as usize - 2];
             let constant = &file.constants.as_slice()[rule.constant as usize];
             append_proved(
                 out,

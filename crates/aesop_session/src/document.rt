@@ -1,11 +1,11 @@
 //! Writing the answers to a file.
 
-ghost use Rattle.std.specs.Prelude.{◌≡◌, ◌≤◌, ◌<◌, ◌⊎◌, IfOk, OnOk, OnErr, IsErrOf, length, if◌then◌else◌};
+ghost use Rattle.std.specs.Prelude.{◌≡◌, ◌≤◌, ◌⊎◌, IfOk, OnOk, OnErr, IsErrOf, if◌then◌else◌};
 ghost use Rattle.std.specs.Io.KnownBytes.{Appends};
 ghost use Rattle.run_io.specs.Causes.{Rose};
 ghost use Rattle.run_io.specs.Moves.{AppendsFront};
 ghost use Rattle.file_syntax.specs.FlatFile.{IsFlat};
-ghost use Rattle.aesop_session.specs.Choices.{AreChoices};
+ghost use Rattle.small_search.specs.Closings.{IsTable};
 ghost use Rattle.aesop_session.specs.Documents.{WritesBlock, WritesBlockFront, WritesBlocks, WritesBlocksFront, WritesDocument, WritesDocumentFront};
 
 use crate::block::append_block;
@@ -13,6 +13,7 @@ use crate::status::Status;
 use file_syntax::{SmallFile, SmallTheorem};
 use lf_terms::{Bytes, NoMemory};
 use run_io::{Sink, WriteEnd, write_piece};
+use small_search::Table;
 use std::alloc::Global;
 
 /// Why a text was not written whole.
@@ -55,12 +56,11 @@ pub(crate) fn write_text<K: Sink>(sink: &mut K, bytes: &[u8]) -> Result<(), Stop
 fn answer_theorem<K: Sink>(
     block: &mut Bytes,
     file: &SmallFile,
-    choices: &[Option<usize>],
+    table: &Table,
     theorem: &SmallTheorem,
     sink: &mut K,
 ) -> Result<bool, Stop>
-    requires table { AreChoices file.now choices.now }
-    requires family { theorem.now.family < length file.now.families }
+    requires table { IsTable file.now table.now }
     requires flat { IsFlat file.now }
     ensures ok { IfOk result (WritesBlock file.now theorem.now (K.held sink.old) (K.held sink.new)) }
     ensures err { OnErr result (WritesBlockFront file.now theorem.now (K.held sink.old) (K.held sink.new)) }
@@ -70,7 +70,7 @@ fn answer_theorem<K: Sink>(
     ensures zeros_later { K.zeros sink.old ≤ K.zeros sink.new }
 {
     block.clear();
-    let is_proved = match append_block(block, file, choices, theorem) {
+    let is_proved = match append_block(block, file, table, theorem) {
         Ok(is_proved) => is_proved,
         Err(_) => return Err(Stop::NoMemory),
     };
@@ -84,10 +84,10 @@ fn answer_theorem<K: Sink>(
 fn write_blocks<K: Sink>(
     alloc: Global,
     file: &SmallFile,
-    choices: &[Option<usize>],
+    table: &Table,
     sink: &mut K,
 ) -> Result<Status, Stop>
-    requires table { AreChoices file.now choices.now }
+    requires table { IsTable file.now table.now }
     requires flat { IsFlat file.now }
     ensures ok { IfOk result (WritesBlocks file.now file.now.theorems (K.held sink.old) (K.held sink.new)) }
     ensures err { OnErr result (WritesBlocksFront file.now file.now.theorems (K.held sink.old) (K.held sink.new)) }
@@ -99,7 +99,7 @@ fn write_blocks<K: Sink>(
     let mut block = Bytes::new(alloc);
     let mut status = Status::AllProved;
     for theorem in file.theorems.as_slice() {
-        match answer_theorem(&mut block, file, choices, theorem, sink) {
+        match answer_theorem(&mut block, file, table, theorem, sink) {
             Ok(is_proved) => status = status_after(status, is_proved),
             Err(stop) => return Err(stop),
         }
@@ -119,10 +119,10 @@ fn status_after(status: Status, is_proved: bool) -> Status
 pub(crate) fn write_document<K: Sink>(
     alloc: Global,
     file: &SmallFile,
-    choices: &[Option<usize>],
+    table: &Table,
     sink: &mut K,
 ) -> Result<Status, Stop>
-    requires table { AreChoices file.now choices.now }
+    requires table { IsTable file.now table.now }
     requires flat { IsFlat file.now }
     ensures ok { IfOk result (WritesDocument file.now (K.held sink.old) (K.held sink.new)) }
     ensures err { OnErr result (WritesDocumentFront file.now (K.held sink.old) (K.held sink.new)) }
@@ -134,7 +134,7 @@ pub(crate) fn write_document<K: Sink>(
     if let Err(stop) = write_text(sink, b"aesop 1 budget 1000\n") {
         return Err(stop);
     }
-    let status = match write_blocks(alloc, file, choices, sink) {
+    let status = match write_blocks(alloc, file, table, sink) {
         Ok(status) => status,
         Err(stop) => return Err(stop),
     };

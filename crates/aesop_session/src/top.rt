@@ -8,7 +8,6 @@ ghost use Rattle.aesop_session.specs.Commands.{IsProve, prove_words};
 ghost use Rattle.aesop_session.specs.Answers.{Answered, IsAnswer, TakesFile, RefusesFile, Served};
 ghost use Rattle.aesop_session.specs.declared.status.Status.{Status};
 
-use crate::choices::choices;
 use crate::command::is_prove;
 use crate::document::{Stop, write_document, write_text};
 use crate::input::{NoFile, read_file};
@@ -16,6 +15,7 @@ use crate::status::Status;
 use file_syntax::SmallFile;
 use lf_terms::Words;
 use run_io::{Sink, Source};
+use small_search::search;
 use std::alloc::Global;
 
 /// Does what the words say. It waits for nobody and returns.
@@ -97,11 +97,11 @@ fn answer<K: Sink>(alloc: Global, file: &SmallFile, sink: &mut K) -> Status
     ensures faults_later { K.faults sink.old ≤ K.faults sink.new }
     ensures zeros_later { K.zeros sink.old ≤ K.zeros sink.new }
 {
-    let table = match choices(alloc, file) {
+    let table = match search(alloc, file) {
         Ok(table) => table,
         Err(_) => return Status::NoMemory,
     };
-    match write_document(alloc, file, table.as_slice(), sink) {
+    match write_document(alloc, file, &table, sink) {
         Ok(status) => status,
         Err(Stop::Write) => Status::WriteFault,
         Err(Stop::NoMemory) => Status::NoMemory,

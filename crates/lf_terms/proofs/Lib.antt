@@ -1,2 +1,10 @@
 pub mod PlacesOfImages
 pub mod Tables
+pub mod Spines
+pub mod ShapeLists
+pub mod TypeLists
+pub mod Expansions
+pub mod Walks
+pub mod Putting
+pub mod Abstractions
+pub mod Scopes

@@ -1,1 +1,9 @@
 pub mod Places
+pub mod Terms
+pub mod TermSizes
+pub mod Shapes
+pub mod ShapeSizes
+pub mod Types
+pub mod TypeSizes
+pub mod Putting
+pub mod Scopes

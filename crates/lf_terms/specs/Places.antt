@@ -1,5 +1,5 @@
 -- Lists of names, and the places of names in them.
-use Rattle.std.specs.Prelude.{◌≡◌, ℕ, List, Option, None, map}
+use Rattle.std.specs.Prelude.{◌≡◌, ℕ, List, Option, None}
 use Rattle.std.specs.Str.{bytes_eq}
 use Rattle.std.specs.List.{position}
 

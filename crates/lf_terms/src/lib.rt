@@ -1,21 +1,38 @@
-//! The plain types that every layer shares: want of memory, names, and short lists of numbers,
-//! bytes and names. Contracts see a name as its bytes and a list as the list of its entries.
-//! No crate of the repository stands below it.
+//! What every layer shares: want of memory, names and their look-up, short lists of numbers, bytes
+//! and names; and the terms of LF with their shapes and types. Contracts see a name as its bytes, a
+//! list as the list of its entries, and terms, shapes and types as the plain data of `lf_definitions`,
+//! which alone stands below. Copies of terms share structure, of which no contract tells.
+//! Proved: substitution, eta-long forms, shapes and equality meet their definitions.
 #![tactic(auto)]
 
 pub mod bytes;
+pub mod eta;
+pub mod head;
 pub mod ids;
 pub mod name;
 pub mod names;
 pub mod no_memory;
+pub mod same;
+pub mod shape;
+pub mod shape_of;
+pub mod shaped;
+pub mod subst;
+pub mod term;
+pub mod ty;
 pub mod words;
 
 pub use bytes::Bytes;
+pub use head::Head;
 pub use ids::Ids;
 pub use name::Name;
 pub use names::Names;
 pub use no_memory::NoMemory;
+pub use shape::{MetaShape, MetaShapes, Shape, Shapes};
+pub use term::{Body, Term, Terms};
+pub use ty::{Atom, Ctx, Kind, Ty, Tys};
 pub use words::Words;
 
+#[cfg(test)]
+mod term_tests;
 #[cfg(test)]
 mod tests;

@@ -1,6 +1,6 @@
-use Rattle.std.proofs.Common.{◌+◌, subst, arith}
+use Rattle.std.proofs.Common.{subst, arith}
 use Rattle.aesop_session.specs.Documents.{WritesBlocks}
-use Rattle.aesop_session.proofs.Completion.{WritesBlocks-nothing, WritesBlocks-push, WritesBlocksFront-at, parts_at, take_next, known_rest}
+use Rattle.aesop_session.proofs.Completion.{WritesBlocks-nothing, WritesBlocks-push, WritesBlocksFront-at, parts_at, take_next}
 use Rattle.aesop_session.proofs.document.write_blocks.Goals as goal
 
 pub loop-theorem-init : goal.loop-theorem-init
@@ -12,8 +12,7 @@ loop-theorem-init g c = record {
 
 pub returns-in-Err-clause-err : goal.returns-in-Err-clause-err
 returns-in-Err-clause-err g c =
-    let known = known_rest _ _ (c.loop-theorem.theorem-index + 1) c.as_slice-theorem-items.ensures c.requires.flat in
-    WritesBlocksFront-at _ _ _ _ _ _ _ _ _ _ c.requires.flat c.requires.table known
+    WritesBlocksFront-at _ _ _ _ _ _ _ _ _ _ c.requires.flat c.requires.table
     (parts_at _ _ _ _ c.as_slice-theorem-items.ensures c.loop-theorem-test.true c.theorem-item.is)
     c.loop-theorem.invariant.written c.in-Err.ensures.err
 

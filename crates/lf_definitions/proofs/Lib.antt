@@ -1,0 +1,10 @@
+pub mod Uniqueness
+pub mod Renaming
+pub mod Totality
+pub mod Composition
+pub mod Expansion
+pub mod Telescopes
+pub mod Laws
+pub mod Types
+pub mod Typing
+pub mod Weakening

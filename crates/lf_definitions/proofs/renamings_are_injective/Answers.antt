@@ -1,0 +1,5 @@
+use Rattle.lf_definitions.proofs.renamings_are_injective.Goals as goal
+use Rattle.lf_definitions.proofs.Laws
+
+pub returns : goal.returns
+returns c = Laws.renamings_are_injective

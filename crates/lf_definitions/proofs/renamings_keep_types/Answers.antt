@@ -1,0 +1,5 @@
+use Rattle.lf_definitions.proofs.renamings_keep_types.Goals as goal
+use Rattle.lf_definitions.proofs.Laws
+
+pub returns : goal.returns
+returns c = Laws.renamings_keep_types

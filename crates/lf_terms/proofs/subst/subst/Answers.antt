@@ -1,0 +1,18 @@
+use Rattle.std.proofs.lemmas.Result.{IfOk-weaker}
+use Rattle.lf_definitions.specs.Shaping.{globals}
+use Rattle.lf_terms.specs.Shapes.{simple_type_of}
+use Rattle.lf_terms.specs.Terms.{term_of}
+use Rattle.lf_terms.proofs.Putting.{puts_start, put_shaped}
+use Rattle.lf_terms.proofs.subst.subst.Goals as goal
+
+pub put_in-requires : goal.put_in-requires
+put_in-requires c =
+    let a = c.args in
+    puts_start (globals a.sig.now a.metas.now) a.outer.now a.inner.now a.sub.now (term_of a.term.now) (simple_type_of a.shape.now) c.requires.term_shaped c.requires.sub_shaped
+
+pub returns-clause-shaped : goal.returns-clause-shaped
+returns-clause-shaped c =
+    let a = c.args in
+    IfOk-weaker c.put_in.result _ _
+    (λ r p. put_shaped (globals a.sig.now a.metas.now) a.outer.now a.inner.now a.sub.now (term_of a.term.now) (term_of r) (simple_type_of a.shape.now) c.requires.term_shaped c.requires.sub_shaped p)
+    c.put_in.ensures

@@ -1,0 +1,134 @@
+//! Hereditary substitution.
+
+ghost use Rattle.std.specs.Prelude.{◌≡◌, ◌++◌, IfOk};
+ghost use Rattle.lf_definitions.specs.Syntax.{bound, lams};
+ghost use Rattle.lf_definitions.specs.Shaping.{Shaped, ShapedList, shapes_in};
+ghost use Rattle.lf_definitions.specs.Substitution.{Substituted, SubstitutedSpine, Substitutes};
+ghost use Rattle.lf_terms.specs.Putting.{putting, PutAt, Puts, TermShaped, ArgsShaped, HeadShaped, HasLams};
+ghost use Rattle.lf_terms.specs.Shapes.{simple_type_of};
+ghost use Rattle.lf_terms.specs.Terms.{term_of};
+
+use crate::head::Head;
+use crate::no_memory::NoMemory;
+use crate::shape::{MetaShapes, Shape, Shapes};
+use crate::term::{Body, Term, Terms};
+use std::alloc::Global;
+
+/// The hereditary substitution of `sub` for the innermost variables of `term`, whose shapes are `inner`.
+/// It reads the shapes only to go from a variable to those of its arguments.
+pub fn subst(
+    alloc: Global,
+    sig: &Shapes,
+    metas: &MetaShapes,
+    outer: &Shapes,
+    inner: &Shapes,
+    shape: &Shape,
+    term: &Term,
+    sub: &Terms,
+) -> Result<Term, NoMemory>
+    requires term_shaped { Shaped (shapes_in sig.now metas.now (outer.now ++ inner.now)) (term_of term.now) (simple_type_of shape.now) }
+    requires sub_shaped { ShapedList (shapes_in sig.now metas.now outer.now) sub.now inner.now }
+    ensures result { IfOk result (λ r. Substitutes sub.now 0 (term_of term.now) (term_of r)) }
+    ensures shaped { IfOk result (λ r. Shaped (shapes_in sig.now metas.now outer.now) (term_of r) (simple_type_of shape.now)) }
+{
+    put_in(alloc, inner, sub, 0, 0, term)
+}
+
+// Puts `sub` for the variables just outside `depth` local binders. The variables outside those rise by `by`.
+#[cycle(subst)]
+fn put_in(
+    alloc: Global,
+    shapes: &Shapes,
+    sub: &Terms,
+    by: u32,
+    depth: u32,
+    term: &Term,
+) -> Result<Term, NoMemory>
+    requires { Puts sub.now shapes.now by depth (TermShaped (term_of term.now)) }
+    ensures { IfOk result (λ r. Substituted (putting sub.now by depth) (term_of term.now) (term_of r)) }
+{
+    match term {
+        Term::Lam(body) => {
+            if depth == u32::MAX {
+                return Err(NoMemory);
+            }
+            let body = put_in(alloc, shapes, sub, by, depth + 1, body.term())?;
+            Ok(Term::Lam(Body::new(alloc, body)?))
+        }
+        Term::At(head, args) => {
+            let args = put_in_all(alloc, shapes, sub, by, depth, args)?;
+            match *head {
+                Head::Bound(number) => put_at(alloc, shapes, sub, by, depth, number, args),
+                Head::Const(constant) => Ok(Term::At(Head::Const(constant), args)),
+                Head::Meta(goal) => Ok(Term::At(Head::Meta(goal), args)),
+            }
+        }
+    }
+}
+
+#[cycle(subst)]
+fn put_in_all(
+    alloc: Global,
+    shapes: &Shapes,
+    sub: &Terms,
+    by: u32,
+    depth: u32,
+    terms: &Terms,
+) -> Result<Terms, NoMemory>
+    requires { Puts sub.now shapes.now by depth (ArgsShaped terms.now) }
+    ensures { IfOk result (λ r. SubstitutedSpine (putting sub.now by depth) terms.now r) }
+{
+    let items = terms.as_slice();
+    let mut results = Vec::with_capacity(alloc, items.len())?;
+    for i in 0..items.len() {
+        results.push(put_in(alloc, shapes, sub, by, depth, &items[i])?)?;
+    }
+    Terms::from_vec(alloc, results)
+}
+
+// A variable, applied to the results of its arguments.
+#[cycle(subst)]
+fn put_at(
+    alloc: Global,
+    shapes: &Shapes,
+    sub: &Terms,
+    by: u32,
+    depth: u32,
+    number: u32,
+    args: Terms,
+) -> Result<Term, NoMemory>
+    requires { Puts sub.now shapes.now by depth (HeadShaped (bound number) args) }
+    ensures { IfOk result (λ r. PutAt (putting sub.now by depth) (bound number) args (term_of r)) }
+{
+    if number < depth {
+        return Ok(Term::At(Head::Bound(number), args));
+    }
+    let terms = sub.as_slice();
+    let outside = (number - depth) as usize;
+    if outside >= terms.len() {
+        let lowered = number - terms.len() as u32;
+        if by > u32::MAX - lowered {
+            return Err(NoMemory);
+        }
+        return Ok(Term::At(Head::Bound(lowered + by), args));
+    }
+    let place = terms.len() - 1 - outside;
+    let shape = &shapes.as_slice()[place];
+    let body = stripped(&terms[place], args.len());
+    put_in(alloc, &shape.args, &args, depth, 0, body)
+}
+
+// The body under as many abstractions.
+fn stripped(term: &Term, count: usize) -> &Term
+    requires { HasLams count (term_of term.now) }
+    ensures { term_of term.now ≡ lams count (term_of result.now) }
+{
+    let mut body = term;
+    for _ in 0..count {
+        match body {
+            Term::Lam(inner) => body = inner.term(),
+            Term::At(..) => unreachable!(),
+        }
+    }
+    body
+}

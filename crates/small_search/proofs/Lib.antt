@@ -1,0 +1,11 @@
+pub mod Options
+pub mod Lists
+pub mod Numbers
+pub mod Derivations
+pub mod Closings
+pub mod Saturation
+pub mod Ways
+pub mod RulesOf
+pub mod Settled
+pub mod Advance
+pub mod Found

@@ -1,0 +1,8 @@
+use Rattle.small_search.specs.Waits.{IsWaiting, IsComplete}
+use Rattle.small_search.proofs.waiting.waiting_of.Given as goal
+
+abbrev pub invariant-loop-number : goal.invariant-loop-number
+invariant-loop-number l = record {
+  waiting : IsWaiting l.file l.waiting;
+  complete : IsComplete l.file l.number l.waiting;
+}

@@ -1,0 +1,7 @@
+pub mod Derivations
+pub mod Parts
+pub mod Numbered
+pub mod Closings
+pub mod RulesOf
+pub mod Waits
+pub mod Progress
