@@ -1,5 +1,5 @@
 -- The tokens of a text: the one way to cut it, each token as long as it can be.
-use Rattle.std.specs.Prelude.{◌≡◌, ◌≢◌, ℕ, ◌+◌, ◌<◌, ◌≤◌, ◌⊎◌, List, [], ◌∷◌, ◌++◌, codes}
+use Rattle.std.specs.Prelude.{◌≡◌, ◌≢◌, ℕ, ◌+◌, ◌<◌, ◌≤◌, ◌⊎◌, List, [], ◌∷◌, ◌++◌, codes, slice_range}
 use Rattle.std.specs.List.{AllByRecursion}
 use Rattle.lex_text.specs.declared.mark.Mark.{Mark}
 use Rattle.lex_text.specs.declared.mark.Mark.TheVariants.{Word, Var, Number, Colon, Dot, Equals, Arrow, LParen, RParen, LBrace, RBrace, LBracket, RBracket}
@@ -108,3 +108,7 @@ WrongText bytes why = (characters : List ℕ) × Spells characters bytes × Wron
 pub record IsWithin (size : ℕ) (token : Token) : Type 0 where
   pub some : token.start < token.end
   pub fits : token.end ≤ size
+
+-- the bytes of a token
+abbrev pub text_of : List ℕ → Token → List ℕ
+text_of bytes piece = slice_range bytes piece.start piece.end
