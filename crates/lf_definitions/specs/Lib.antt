@@ -4,5 +4,7 @@ pub mod Shaping
 pub mod Substitution
 pub mod Expansion
 pub mod Typing
+pub mod Signatures
+pub mod Failures
 pub mod Laws
 pub mod Codes
