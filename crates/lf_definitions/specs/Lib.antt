@@ -6,5 +6,6 @@ pub mod Expansion
 pub mod Typing
 pub mod Signatures
 pub mod Failures
+pub mod Occurrence
 pub mod Laws
 pub mod Codes
