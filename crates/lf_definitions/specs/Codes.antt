@@ -3,6 +3,8 @@ use Rattle.std.specs.Prelude.{◌≡◌, ℕ, zero, suc, List, [], ◌∷◌}
 use Rattle.std.specs.Coded.{Coded, code_by, coded×, coded_ℕ, coded_list}
 use mathlib.Core.Path.{refl, ap, ap₂, ◌∙◌}
 use Rattle.lf_definitions.specs.Syntax.{LfHead, bound, constant, metavariable, LfTerm, lam, at, Spine, no_args, arg, SimpleType, base, arrow, LfType, pi, family}
+use Rattle.lf_definitions.specs.Typing.{LfGoal}
+use Rattle.lf_definitions.specs.Signatures.{LfEntry, family_entry, constant_entry, LfSignature}
 
 abbrev Marks : Type 0
 Marks = List (ℕ × ℕ)
@@ -128,3 +130,37 @@ types_code = coded_list type_code
 -- shapes with numbers
 abbrev pub numbered_shapes_code : Coded (List (ℕ × SimpleType))
 numbered_shapes_code = coded_list (coded× coded_ℕ shape_code)
+
+-- goals
+abbrev goal_parts : LfGoal → ℕ × List LfType
+goal_parts g = (g.id, g.target ∷ g.context)
+
+abbrev parts_goal : ℕ × List LfType → LfGoal
+parts_goal (id, []) = record { id = id; context = []; target = family 0 no_args }
+parts_goal (id, target ∷ context) = record { id = id; context = context; target = target }
+
+abbrev pub goals_code : Coded (List LfGoal)
+goals_code = coded_list (code_by (ℕ × List LfType) (coded× coded_ℕ types_code) goal_parts parts_goal (λ _. refl))
+
+-- signatures
+abbrev EntryParts : Type 0
+EntryParts = ℕ × (List ℕ × List LfType)
+
+abbrev entry_parts : LfEntry → EntryParts
+entry_parts (family_entry name kind) = (0, (name, kind))
+entry_parts (constant_entry name type) = (1, (name, type ∷ []))
+
+abbrev constant_parts : List ℕ → List LfType → LfEntry
+constant_parts name [] = family_entry name []
+constant_parts name (type ∷ types) = constant_entry name type
+
+abbrev parts_entry : EntryParts → LfEntry
+parts_entry (zero, parts) = family_entry parts.0 parts.1
+parts_entry (suc mark, parts) = constant_parts parts.0 parts.1
+
+pub parts_entry-entry_parts : (e : LfEntry) → parts_entry (entry_parts e) ≡ e
+parts_entry-entry_parts (family_entry name kind) = refl
+parts_entry-entry_parts (constant_entry name type) = refl
+
+abbrev pub signature_code : Coded LfSignature
+signature_code = coded_list (code_by EntryParts (coded× coded_ℕ (coded× (coded_list coded_ℕ) types_code)) entry_parts parts_entry parts_entry-entry_parts)

@@ -7,5 +7,7 @@ pub mod Typing
 pub mod Signatures
 pub mod Failures
 pub mod Occurrence
+pub mod ShapedGoals
 pub mod Laws
+pub mod TypingLaws
 pub mod Codes

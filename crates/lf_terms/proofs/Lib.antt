@@ -8,3 +8,5 @@ pub mod Walks
 pub mod Putting
 pub mod Abstractions
 pub mod Scopes
+pub mod NamePlaces
+pub mod SignatureEntries

@@ -1,10 +1,12 @@
 -- Lists of shapes and the simple types that they are.
-use Rattle.std.proofs.Common.{◌≡◌, ℕ, zero, suc, ◌+◌, ◌<◌, List, [], ◌∷◌, ◌++◌, length, get_or, take, Some, refl, sym, ap, ap₂, ◌∙◌, arith}
+use Rattle.std.proofs.Common.{◌≡◌, ℕ, zero, suc, ◌+◌, ◌<◌, List, [], ◌∷◌, ◌++◌, length, get_or, take, Option, Some, Vec, refl, sym, ap, ap₂, ◌∙◌, arith}
+use Rattle.std.specs.Global.{Global}
+use Rattle.std.specs.declared.sync.Arc.{Arc}
 use Rattle.std.proofs.lemmas.List.{take_more}
 use Rattle.lf_definitions.specs.Syntax.{LfType, SimpleType, Spine, base, arrows, pis, family, shape_of, shapes_of_types, shape_size, shapes_size}
 use Rattle.lf_definitions.specs.Shaping.{shape_at}
 use Rattle.lf_terms.specs.declared.shape.Shape.{Shape}
-use Rattle.lf_terms.specs.Shapes.{simple_type_of, simple_types_of}
+use Rattle.lf_terms.specs.Shapes.{simple_type_of, simple_types_of, kept_shapes}
 use Rattle.lf_terms.specs.declared.ty.Ty.{Ty}
 use Rattle.lf_terms.specs.Types.{type_of, types_of}
 
@@ -21,6 +23,22 @@ take_read xs i x within is = take_more xs i x within ∙ ap (λ y. take i xs ++ 
 pub simple_types_of-append : (ss : List Shape) (s : Shape) → simple_types_of (ss ++ s ∷ []) ≡ simple_types_of ss ++ simple_type_of s ∷ []
 simple_types_of-append [] s = refl
 simple_types_of-append (r ∷ ss) s = ap (λ l. simple_type_of r ∷ l) (simple_types_of-append ss s)
+
+-- one more shape, equal to the one read at a place
+pub shape_read : (xs ss new : List Shape) (i : ℕ) (x s : Shape) → i < length xs → x ≡ get_or xs i x → new ≡ ss ++ s ∷ [] →
+    simple_types_of ss ≡ simple_types_of (take i xs) → simple_type_of s ≡ simple_type_of x → simple_types_of new ≡ simple_types_of (take (i + 1) xs)
+shape_read xs ss new i x s within is pushed before here =
+    ap simple_types_of pushed ∙ simple_types_of-append ss s ∙ ap₂ (λ l r. l ++ r ∷ []) before here
+    ∙ sym (simple_types_of-append (take i xs) x) ∙ ap simple_types_of (sym (take_read xs i x within is))
+
+-- one more shape in a list that is known
+pub push_in_copy : (ss new : List Shape) (s : Shape) (now : List SimpleType) → simple_types_of ss ≡ now → new ≡ ss ++ s ∷ [] → simple_types_of new ≡ now ++ simple_type_of s ∷ []
+push_in_copy ss new s now are pushed = ap simple_types_of pushed ∙ simple_types_of-append ss s ∙ ap (λ l. l ++ simple_type_of s ∷ []) are
+
+pub push_in_block : (o : Option (Arc (Vec Shape Global) Global)) (block : Arc (Vec Shape Global) Global) (before after : Vec Shape Global) (s : Shape) (now : List SimpleType) →
+    kept_shapes o ≡ now → o ≡ Some block → before ≡ block.value → after.items ≡ before.items ++ s ∷ [] → simple_types_of after.items ≡ now ++ simple_type_of s ∷ []
+push_in_block o block before after s now view is lent pushed =
+    push_in_copy before.items after.items s now (ap (λ v. simple_types_of v.items) lent ∙ ap kept_shapes (sym is) ∙ view) pushed
 
 shapes_of_types-append : (ts : List Ty) (t : Ty) → shapes_of_types (types_of (ts ++ t ∷ [])) ≡ shapes_of_types (types_of ts) ++ shape_of (type_of t) ∷ []
 shapes_of_types-append [] t = refl

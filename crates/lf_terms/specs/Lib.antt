@@ -5,5 +5,8 @@ pub mod Shapes
 pub mod ShapeSizes
 pub mod Types
 pub mod TypeSizes
+pub mod Targets
 pub mod Putting
 pub mod Scopes
+pub mod Finding
+pub mod Entries

@@ -12,6 +12,11 @@ pub struct Ids {
     items: Vec<u32>,
 }
 
+/// The way from a root to a part: the number of the child at each step, counted from 0. The children of
+/// a type are its binders and then its arguments, those of a kind its binders, those of a spine its
+/// arguments, and the body of an abstraction is child 0.
+pub type Path = Ids;
+
 impl Model for Ids {
     ghost use Rattle.std.specs.Prelude.{List, ℕ};
 

@@ -1,12 +1,16 @@
 //! What every layer shares: want of memory, names and their look-up, short lists of numbers, bytes
-//! and names; and the terms of LF with their shapes and types. Contracts see a name as its bytes, a
-//! list as the list of its entries, and terms, shapes and types as the plain data of `lf_definitions`,
-//! which alone stands below. Copies of terms share structure, of which no contract tells.
-//! Proved: substitution, eta-long forms, shapes and equality meet their definitions.
+//! and names; the terms of LF with their shapes and types, goals, and signatures. Contracts see a name
+//! as its bytes, a list as the list of its entries, and terms, shapes, types, goals and signatures as
+//! the plain data of `lf_definitions`, which alone stands below. Copies of terms share structure, of
+//! which no contract tells.
+//! Proved: substitution, eta-long forms, shapes and equality meet their definitions, and a signature
+//! is well formed and finds its names.
 #![tactic(auto)]
 
 pub mod bytes;
 pub mod eta;
+pub mod found;
+pub mod goal;
 pub mod head;
 pub mod ids;
 pub mod name;
@@ -16,18 +20,22 @@ pub mod same;
 pub mod shape;
 pub mod shape_of;
 pub mod shaped;
+pub mod signature;
 pub mod subst;
 pub mod term;
 pub mod ty;
 pub mod words;
 
 pub use bytes::Bytes;
+pub use found::Found;
+pub use goal::{Goal, GoalList};
 pub use head::Head;
-pub use ids::Ids;
+pub use ids::{Ids, Path};
 pub use name::Name;
 pub use names::Names;
 pub use no_memory::NoMemory;
 pub use shape::{MetaShape, MetaShapes, Shape, Shapes};
+pub use signature::Signature;
 pub use term::{Body, Term, Terms};
 pub use ty::{Atom, Ctx, Kind, Ty, Tys};
 pub use words::Words;

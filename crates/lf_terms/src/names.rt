@@ -1,6 +1,6 @@
 //! Lists of names that are found by a look-up and not by a scan.
 
-ghost use Rattle.std.specs.Prelude.{◌≡◌, ◌++◌, [], ◌∷◌, OnOk, OnErr, length};
+ghost use Rattle.std.specs.Prelude.{◌≡◌, ◌++◌, ℕ, List, [], ◌∷◌, OnOk, OnErr, length};
 ghost use Rattle.lf_terms.specs.Places.{place_of, IsNew};
 
 use crate::no_memory::NoMemory;
@@ -64,5 +64,12 @@ impl Names {
         let name = Vec::from_slice(alloc, name)?;
         self.names.insert_full(name)?;
         Ok(())
+    }
+
+    /// Takes the last name away.
+    pub fn drop_last(&mut self)
+        ensures { (names : List (List ℕ)) → (name : List ℕ) → self.old ≡ names ++ name ∷ [] → self.new ≡ names }
+    {
+        self.names.pop();
     }
 }

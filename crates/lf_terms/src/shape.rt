@@ -1,6 +1,6 @@
 //! Shapes.
 
-ghost use Rattle.std.specs.Prelude.{◌≡◌, IfOk, [], length};
+ghost use Rattle.std.specs.Prelude.{◌≡◌, ◌++◌, IfOk, OnOk, OnErr, [], ◌∷◌, length};
 ghost use Rattle.lf_terms.specs.Shapes.{simple_type_of, simple_types_of, metas_of};
 
 use crate::no_memory::NoMemory;
@@ -89,6 +89,23 @@ impl Shapes {
         self.as_slice().len()
     }
 
+    /// Adds a shape at the end, in one step where no copy shares the list. A refusal leaves it as it was.
+    pub fn push(&mut self, alloc: Global, shape: Shape) -> Result<(), NoMemory>
+        ensures ok { OnOk result (self.new ≡ self.old ++ simple_type_of shape ∷ []) }
+        ensures err { OnErr result (self.new ≡ self.old) }
+    {
+        if let Some(block) = &mut self.items {
+            if let Some(items) = Arc::get_mut(block) {
+                items.push(shape)?;
+                return Ok(());
+            }
+        }
+        let mut items = copied(alloc, self.as_slice())?;
+        items.push(shape)?;
+        self.items = Some(Arc::new(alloc, items)?);
+        Ok(())
+    }
+
     /// An equal list.
     pub fn copy(&self) -> Result<Shapes, NoMemory>
         ensures { IfOk result (λ shapes. shapes ≡ self.now) }
@@ -101,6 +118,17 @@ impl Shapes {
             }
         }
     }
+}
+
+// Equal shapes, in a vector of their own with room for one more.
+fn copied(alloc: Global, shapes: &[Shape]) -> Result<Vec<Shape>, NoMemory>
+    ensures { IfOk result (λ copies. simple_types_of copies.items ≡ simple_types_of shapes.now) }
+{
+    let mut copies = Vec::new(alloc);
+    for shape in shapes {
+        copies.push(shape.copy()?)?;
+    }
+    Ok(copies)
 }
 
 /// The shape of a metavariable: its goal's number, and the shapes of its goal's context.

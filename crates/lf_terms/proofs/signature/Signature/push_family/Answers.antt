@@ -1,0 +1,33 @@
+use Rattle.std.proofs.Common.{arith, ap, ◌∙◌, [], ◌∷◌, ◌++◌, length}
+use Rattle.lf_terms.specs.Places.{place_of}
+use Rattle.lf_terms.specs.declared.found.Found.TheVariants.{Family}
+use Rattle.lf_terms.proofs.SignatureEntries.{is_new_place, few_families, count_family_names, family_added, keeps_family}
+use Rattle.lf_terms.proofs.signature.Signature.push_family.Goals as goal
+
+pub add-requires : goal.add-requires
+add-requires c = ap (place_of c.self.inside.names) c.as_bytes.ensures ∙ is_new_place _ _ _ _ _ _ c.self.view_is c.self.invariant c.args.name c.requires.is_new
+
+pub overflow_cast-number : goal.overflow_cast-number
+overflow_cast-number c = omega (arith, c.len-number.ensures, ap length c.has_room-2.ensures.items, few_families _ _ _ _ _ _ c.self.view_is c.self.invariant)
+
+pub invariant_of-self-2 : goal.invariant_of-self-2
+invariant_of-self-2 c =
+    keeps_family _ _ _ _ _ _ c.self.view_is c.self.invariant
+    (record { name = c.args.name; kind = c.args.kind }) c.len-number.result c.add.new.self c.put_last.new.items.items c.put_last-2.new.items.items
+    (omega (arith, c.len-number.ensures, ap length c.has_room-2.ensures.items))
+    (c.in-Ok.ensures.ok ∙ ap (λ l. c.self.inside.names ++ l ∷ []) c.as_bytes.ensures)
+    (c.put_last.ensures ∙ ap (λ l. l ++ Family c.len-number.result ∷ []) c.has_room.ensures.items)
+    (c.put_last-2.ensures ∙ ap (λ l. l ++ (record { name = c.args.name; kind = c.args.kind }) ∷ []) c.has_room-2.ensures.items)
+    c.requires.is_new c.requires.formed c.requires.room
+
+pub returns-clause-number : goal.returns-clause-number
+returns-clause-number c = omega (arith, c.len-number.ensures, ap length c.has_room-2.ensures.items, count_family_names _ _ _ _ _ _ c.self.view_is c.self.invariant)
+
+pub returns-clause-ok : goal.returns-clause-ok
+returns-clause-ok c =
+    family_added _ _ _ _ _ _ c.self.view_is c.self.invariant
+    (record { name = c.args.name; kind = c.args.kind }) c.len-number.result c.add.new.self c.put_last.new.items.items c.put_last-2.new.items.items
+    (omega (arith, c.len-number.ensures, ap length c.has_room-2.ensures.items))
+    (c.in-Ok.ensures.ok ∙ ap (λ l. c.self.inside.names ++ l ∷ []) c.as_bytes.ensures)
+    (c.put_last.ensures ∙ ap (λ l. l ++ Family c.len-number.result ∷ []) c.has_room.ensures.items)
+    (c.put_last-2.ensures ∙ ap (λ l. l ++ (record { name = c.args.name; kind = c.args.kind }) ∷ []) c.has_room-2.ensures.items)
