@@ -10,3 +10,4 @@ pub mod Abstractions
 pub mod Scopes
 pub mod NamePlaces
 pub mod SignatureEntries
+pub mod PuttingTypes

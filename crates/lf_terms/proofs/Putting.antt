@@ -24,7 +24,7 @@ up_by-suc : (n : ℕ) (σ : Replacement) → up_by (suc n) σ ≡ up (up_by n σ
 up_by-suc zero σ = refl
 up_by-suc (suc n) σ = up_by-suc n (up σ)
 
-putting-suc : (sub : Spine) (by d : ℕ) → putting sub by (d + 1) ≡ up (putting sub by d)
+pub putting-suc : (sub : Spine) (by d : ℕ) → putting sub by (d + 1) ≡ up (putting sub by d)
 putting-suc sub by d = ap (λ n. putting sub by n) (add-one d) ∙ up_by-suc d (push_all sub (λ h. stays (next_by by h)))
 
 pub put_under : (sub : Spine) (by d : ℕ) (b r : LfTerm) → Substituted (putting sub by (d + 1)) b r → Substituted (putting sub by d) (lam b) (lam r)

@@ -1,8 +1,8 @@
 -- Putting a list for variables under local binders, while the variables outside rise by a number: what each step of a substitution asks and gives.
-use Rattle.std.specs.Prelude.{◌≡◌, ℕ, List, length, Some}
-use Rattle.lf_definitions.specs.Syntax.{LfHead, LfTerm, at, lams, Spine, SimpleType}
+use Rattle.std.specs.Prelude.{◌≡◌, ℕ, List, length, Option, Some}
+use Rattle.lf_definitions.specs.Syntax.{LfHead, LfTerm, at, lams, Spine, SimpleType, LfType}
 use Rattle.lf_definitions.specs.Renaming.{next_by}
-use Rattle.lf_definitions.specs.Shaping.{Scope, under_all, Shaped, ShapedSpine, ShapedList}
+use Rattle.lf_definitions.specs.Shaping.{Scope, under_all, Shaped, ShapedSpine, ShapedList, ShapedType}
 use Rattle.lf_definitions.specs.Substitution.{stays, becomes, Replacement, up_by, push_all, Applied}
 
 abbrev pub putting : Spine → ℕ → ℕ → Replacement
@@ -29,6 +29,10 @@ TermShaped t Γ Δ s = Shaped Γ t s
 
 abbrev pub ArgsShaped : Spine → Scope → Scope → SimpleType → Type 0
 ArgsShaped ts Γ Δ s = ShapedSpine Γ ts s
+
+-- by some shapes of kinds
+abbrev pub TypeShaped : LfType → Scope → Scope → SimpleType → Type 0
+TypeShaped a Γ Δ s = (kinds : ℕ → Option SimpleType) × ShapedType kinds Γ a
 
 -- a head before, with the results of its arguments after
 abbrev pub HeadShaped : LfHead → Spine → Scope → Scope → SimpleType → Type 0

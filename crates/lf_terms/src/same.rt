@@ -2,8 +2,10 @@
 
 ghost use Rattle.std.specs.Prelude.{◌≡◌, ◌↔◌, IsTrue};
 ghost use Rattle.lf_terms.specs.Terms.{term_of};
+ghost use Rattle.lf_terms.specs.Types.{type_of, atom_of};
 
 use crate::term::{Term, Terms};
+use crate::ty::{Atom, Ty, Tys};
 
 /// Whether two terms are equal, symbol by symbol. It stops at the first difference, and takes no memory.
 #[cycle(same)]
@@ -33,4 +35,46 @@ pub fn same_terms(a: &Terms, b: &Terms) -> bool
         }
     }
     true
+}
+
+/// Whether two types are equal, symbol by symbol. It takes no memory.
+#[cycle(same_ty)]
+pub fn same_ty(a: &Ty, b: &Ty) -> bool
+    ensures { IsTrue result ↔ (type_of a.now ≡ type_of b.now) }
+{
+    if a.family != b.family {
+        return false;
+    }
+    if !same_tys(&a.binders, &b.binders) {
+        return false;
+    }
+    same_terms(&a.args, &b.args)
+}
+
+/// Whether two lists have equal types at each place.
+#[cycle(same_ty)]
+pub fn same_tys(a: &Tys, b: &Tys) -> bool
+    ensures { IsTrue result ↔ (a.now ≡ b.now) }
+{
+    let types = a.as_slice();
+    let others = b.as_slice();
+    if types.len() != others.len() {
+        return false;
+    }
+    for i in 0..types.len() {
+        if !same_ty(&types[i], &others[i]) {
+            return false;
+        }
+    }
+    true
+}
+
+/// Whether two families with arguments are equal, symbol by symbol. It takes no memory.
+pub fn same_atom(a: &Atom, b: &Atom) -> bool
+    ensures { IsTrue result ↔ (atom_of a.now ≡ atom_of b.now) }
+{
+    if a.family != b.family {
+        return false;
+    }
+    same_terms(&a.args, &b.args)
 }

@@ -3,15 +3,17 @@
 ghost use Rattle.std.specs.Prelude.{◌≡◌, ◌++◌, IfOk};
 ghost use Rattle.lf_definitions.specs.Syntax.{bound, lams};
 ghost use Rattle.lf_definitions.specs.Shaping.{Shaped, ShapedList, shapes_in};
-ghost use Rattle.lf_definitions.specs.Substitution.{Substituted, SubstitutedSpine, Substitutes};
-ghost use Rattle.lf_terms.specs.Putting.{putting, PutAt, Puts, TermShaped, ArgsShaped, HeadShaped, HasLams};
-ghost use Rattle.lf_terms.specs.Shapes.{simple_type_of};
-ghost use Rattle.lf_terms.specs.Terms.{term_of};
+ghost use Rattle.lf_definitions.specs.Substitution.{Substituted, SubstitutedSpine, Substitutes, SubstitutedType};
+ghost use Rattle.lf_terms.specs.Putting.{putting, PutAt, Puts, TermShaped, ArgsShaped, TypeShaped, HeadShaped, HasLams};
+ghost use Rattle.lf_terms.specs.Shapes.{simple_type_of, simple_types_of};
+ghost use Rattle.lf_terms.specs.Terms.{term_of, spine_of};
+ghost use Rattle.lf_terms.specs.Types.{type_of};
 
 use crate::head::Head;
 use crate::no_memory::NoMemory;
 use crate::shape::{MetaShapes, Shape, Shapes};
 use crate::term::{Body, Term, Terms};
+use crate::ty::{Ty, Tys};
 use std::alloc::Global;
 
 /// The hereditary substitution of `sub` for the innermost variables of `term`, whose shapes are `inner`.
@@ -31,21 +33,96 @@ pub fn subst(
     ensures result { IfOk result (λ r. Substitutes sub.now 0 (term_of term.now) (term_of r)) }
     ensures shaped { IfOk result (λ r. Shaped (shapes_in sig.now metas.now outer.now) (term_of r) (simple_type_of shape.now)) }
 {
-    put_in(alloc, inner, sub, 0, 0, term)
+    let shapes = inner.as_slice();
+    put_in(alloc, shapes, sub.as_slice(), 0, 0, term)
+}
+
+/// A term with `sub`, whose shapes are `shapes`, put for its innermost variables. The numbers of the other
+/// variables fall by as many and rise by `by`. Scopes before and after are asked for in which this is shaped.
+pub fn put(
+    alloc: Global,
+    shapes: &[Shape],
+    sub: &[Term],
+    by: u32,
+    term: &Term,
+) -> Result<Term, NoMemory>
+    requires { Puts (spine_of sub.now) (simple_types_of shapes.now) by 0 (TermShaped (term_of term.now)) }
+    ensures { IfOk result (λ r. Substituted (putting (spine_of sub.now) by 0) (term_of term.now) (term_of r)) }
+{
+    put_in(alloc, shapes, sub, by, 0, term)
+}
+
+/// The same in each term of a list, as `put` does it in one.
+pub fn put_all(
+    alloc: Global,
+    shapes: &[Shape],
+    sub: &[Term],
+    by: u32,
+    terms: &Terms,
+) -> Result<Terms, NoMemory>
+    requires { Puts (spine_of sub.now) (simple_types_of shapes.now) by 0 (ArgsShaped terms.now) }
+    ensures { IfOk result (λ r. SubstitutedSpine (putting (spine_of sub.now) by 0) terms.now r) }
+{
+    put_in_all(alloc, shapes, sub, by, 0, terms)
+}
+
+/// The same in each term of a type, as `put` does it in one.
+pub fn put_type(
+    alloc: Global,
+    shapes: &[Shape],
+    sub: &[Term],
+    by: u32,
+    ty: &Ty,
+) -> Result<Ty, NoMemory>
+    requires { Puts (spine_of sub.now) (simple_types_of shapes.now) by 0 (TypeShaped (type_of ty.now)) }
+    ensures { IfOk result (λ r. SubstitutedType (putting (spine_of sub.now) by 0) (type_of ty.now) (type_of r)) }
+{
+    put_in_type(alloc, shapes, sub, by, 0, ty)
+}
+
+// Each binder of a type stands under those before it.
+fn put_in_type(
+    alloc: Global,
+    shapes: &[Shape],
+    sub: &[Term],
+    by: u32,
+    depth: u32,
+    ty: &Ty,
+) -> Result<Ty, NoMemory>
+    requires { Puts (spine_of sub.now) (simple_types_of shapes.now) by depth (TypeShaped (type_of ty.now)) }
+    ensures { IfOk result (λ r. SubstitutedType (putting (spine_of sub.now) by depth) (type_of ty.now) (type_of r)) }
+{
+    let items = ty.binders.as_slice();
+    let count = items.len();
+    if count > (u32::MAX - depth) as usize {
+        return Err(NoMemory);
+    }
+    let mut binders = Vec::with_capacity(alloc, count)?;
+    for i in 0..count {
+        let inside = depth + i as u32;
+        binders.push(put_in_type(alloc, shapes, sub, by, inside, &items[i])?)?;
+    }
+    let args = put_in_all(alloc, shapes, sub, by, depth + count as u32, &ty.args)?;
+    let binders = Tys::from_vec(alloc, binders)?;
+    Ok(Ty {
+        binders,
+        family: ty.family,
+        args,
+    })
 }
 
 // Puts `sub` for the variables just outside `depth` local binders. The variables outside those rise by `by`.
 #[cycle(subst)]
 fn put_in(
     alloc: Global,
-    shapes: &Shapes,
-    sub: &Terms,
+    shapes: &[Shape],
+    sub: &[Term],
     by: u32,
     depth: u32,
     term: &Term,
 ) -> Result<Term, NoMemory>
-    requires { Puts sub.now shapes.now by depth (TermShaped (term_of term.now)) }
-    ensures { IfOk result (λ r. Substituted (putting sub.now by depth) (term_of term.now) (term_of r)) }
+    requires { Puts (spine_of sub.now) (simple_types_of shapes.now) by depth (TermShaped (term_of term.now)) }
+    ensures { IfOk result (λ r. Substituted (putting (spine_of sub.now) by depth) (term_of term.now) (term_of r)) }
 {
     match term {
         Term::Lam(body) => {
@@ -69,14 +146,14 @@ fn put_in(
 #[cycle(subst)]
 fn put_in_all(
     alloc: Global,
-    shapes: &Shapes,
-    sub: &Terms,
+    shapes: &[Shape],
+    sub: &[Term],
     by: u32,
     depth: u32,
     terms: &Terms,
 ) -> Result<Terms, NoMemory>
-    requires { Puts sub.now shapes.now by depth (ArgsShaped terms.now) }
-    ensures { IfOk result (λ r. SubstitutedSpine (putting sub.now by depth) terms.now r) }
+    requires { Puts (spine_of sub.now) (simple_types_of shapes.now) by depth (ArgsShaped terms.now) }
+    ensures { IfOk result (λ r. SubstitutedSpine (putting (spine_of sub.now) by depth) terms.now r) }
 {
     let items = terms.as_slice();
     let mut results = Vec::with_capacity(alloc, items.len())?;
@@ -90,32 +167,32 @@ fn put_in_all(
 #[cycle(subst)]
 fn put_at(
     alloc: Global,
-    shapes: &Shapes,
-    sub: &Terms,
+    shapes: &[Shape],
+    sub: &[Term],
     by: u32,
     depth: u32,
     number: u32,
     args: Terms,
 ) -> Result<Term, NoMemory>
-    requires { Puts sub.now shapes.now by depth (HeadShaped (bound number) args) }
-    ensures { IfOk result (λ r. PutAt (putting sub.now by depth) (bound number) args (term_of r)) }
+    requires { Puts (spine_of sub.now) (simple_types_of shapes.now) by depth (HeadShaped (bound number) args) }
+    ensures { IfOk result (λ r. PutAt (putting (spine_of sub.now) by depth) (bound number) args (term_of r)) }
 {
     if number < depth {
         return Ok(Term::At(Head::Bound(number), args));
     }
-    let terms = sub.as_slice();
     let outside = (number - depth) as usize;
-    if outside >= terms.len() {
-        let lowered = number - terms.len() as u32;
+    if outside >= sub.len() {
+        let lowered = number - sub.len() as u32;
         if by > u32::MAX - lowered {
             return Err(NoMemory);
         }
         return Ok(Term::At(Head::Bound(lowered + by), args));
     }
-    let place = terms.len() - 1 - outside;
-    let shape = &shapes.as_slice()[place];
-    let body = stripped(&terms[place], args.len());
-    put_in(alloc, &shape.args, &args, depth, 0, body)
+    let place = sub.len() - 1 - outside;
+    let shape = &shapes[place];
+    let body = stripped(&sub[place], args.len());
+    let inner = shape.args.as_slice();
+    put_in(alloc, inner, args.as_slice(), depth, 0, body)
 }
 
 // The body under as many abstractions.
