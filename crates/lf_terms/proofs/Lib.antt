@@ -11,3 +11,4 @@ pub mod Scopes
 pub mod NamePlaces
 pub mod SignatureEntries
 pub mod PuttingTypes
+pub mod Mentions

@@ -10,3 +10,4 @@ pub mod Putting
 pub mod Scopes
 pub mod Finding
 pub mod Entries
+pub mod Mentions

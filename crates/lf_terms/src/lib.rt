@@ -16,6 +16,7 @@ pub mod ids;
 pub mod name;
 pub mod names;
 pub mod no_memory;
+pub mod occurs;
 pub mod same;
 pub mod shape;
 pub mod shape_of;
