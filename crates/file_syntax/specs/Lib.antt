@@ -1,4 +1,12 @@
-pub mod Grammar
-pub mod Numbers
-pub mod Names
-pub mod FlatFile
+pub mod Trees
+pub mod TreeCodes
+pub mod TermViews
+pub mod TermSizes
+pub mod TypeViews
+pub mod TypeSizes
+pub mod Signs
+pub mod Productions
+pub mod Nesting
+pub mod Files
+pub mod Places
+pub mod Reading
