@@ -1,13 +1,13 @@
 -- What was read from the start can always be completed to a file.
 use Rattle.std.proofs.Common.{◌≡◌, if◌then◌else◌, List, [], ◌∷◌, ◌++◌, Option, Some, None, refl, sym, subst}
-use Rattle.file_syntax.specs.declared.span.Span.{Span}
+use Rattle.file_trees.specs.declared.span.Span.{Span}
 use Rattle.file_syntax.specs.declared.sign.Keyword.{Keyword}
 use Rattle.file_syntax.specs.declared.sign.Keyword.TheVariants.{Family as family_word, Const as const_word, Theorem as theorem_word, Data as data_word, Rule as rule_word, Norm as norm_word, Apply as apply_word, Other as other_word}
 use Rattle.file_syntax.specs.declared.sign.Sign.{Sign}
 use Rattle.file_syntax.specs.declared.sign.Sign.TheVariants.{TypeWord, Word, Var, Number, Colon, Dot, Equals, Arrow, LParen, RParen, LBrace, RBrace, LBracket, RBracket}
-use Rattle.file_syntax.specs.declared.decl_tree.DeclTree.{DeclTree}
-use Rattle.file_syntax.specs.declared.decl_tree.PhaseWord.{PhaseWord}
-use Rattle.file_syntax.specs.declared.decl_tree.BuildWord.{BuildWord}
+use Rattle.file_trees.specs.declared.decl_tree.DeclTree.{DeclTree}
+use Rattle.file_trees.specs.declared.decl_tree.PhaseWord.{PhaseWord}
+use Rattle.file_trees.specs.declared.decl_tree.BuildWord.{BuildWord}
 use Rattle.file_syntax.specs.declared.state.Goal.{Goal}
 use Rattle.file_syntax.specs.declared.state.Goal.TheVariants.{Family as goal_family, Const as goal_const, Theorem as goal_theorem}
 use Rattle.file_syntax.specs.declared.state.RulePart.{RulePart}
@@ -19,7 +19,7 @@ use Rattle.file_syntax.specs.declared.state.Top.TheVariants.{Between, GoalName, 
 use Rattle.file_syntax.specs.declared.state.Frame.{Frame}
 use Rattle.file_syntax.specs.declared.state.Frame.TheVariants.{Declared, Brace, Group, Argument}
 use Rattle.file_syntax.specs.declared.state.State.{State}
-use Rattle.file_syntax.specs.Trees.{Tree, leaf, applied, Classifier, family, star, Binding, pi_of, arrow_of, bind}
+use Rattle.file_trees.specs.Trees.{Tree, leaf, applied, Classifier, family, star, Binding, pi_of, arrow_of, bind}
 use Rattle.file_syntax.specs.Productions.{joined, up_to}
 use Rattle.file_syntax.specs.Reading.{at_top, went_on, ended, abstracted, close_type, close_kind, close_term, no_argument, term_arguments, family_arguments, stands_at_kind, move, stepped, run}
 use Rattle.file_syntax.specs.Reading.{started, begun, next_part, ended_rule, typed}

@@ -1,13 +1,13 @@
 -- Each derivation of the grammar is read: the machine goes over its signs and keeps its tree.
 use Rattle.std.proofs.Common.{◌≡◌, List, [], ◌∷◌, ◌++◌, Option, Some, refl, ap, sym, ◌∙◌}
-use Rattle.file_syntax.specs.declared.span.Span.{Span}
+use Rattle.file_trees.specs.declared.span.Span.{Span}
 use Rattle.file_syntax.specs.declared.sign.Keyword.{Keyword}
 use Rattle.file_syntax.specs.declared.sign.Sign.{Sign}
 use Rattle.file_syntax.specs.declared.sign.Sign.TheVariants.{Word, Number, Colon, Dot, Arrow, RParen, LBrace, RBrace, LBracket, RBracket}
-use Rattle.file_syntax.specs.declared.decl_tree.DeclTree.{DeclTree}
-use Rattle.file_syntax.specs.declared.decl_tree.DeclTree.TheVariants.{Family as family_tree, Const as const_tree, Theorem as theorem_tree}
-use Rattle.file_syntax.specs.declared.decl_tree.PhaseWord.{PhaseWord}
-use Rattle.file_syntax.specs.declared.decl_tree.BuildWord.{BuildWord}
+use Rattle.file_trees.specs.declared.decl_tree.DeclTree.{DeclTree}
+use Rattle.file_trees.specs.declared.decl_tree.DeclTree.TheVariants.{Family as family_tree, Const as const_tree, Theorem as theorem_tree}
+use Rattle.file_trees.specs.declared.decl_tree.PhaseWord.{PhaseWord}
+use Rattle.file_trees.specs.declared.decl_tree.BuildWord.{BuildWord}
 use Rattle.file_syntax.specs.declared.state.Goal.TheVariants.{Family as goal_family, Const as goal_const, Theorem as goal_theorem}
 use Rattle.file_syntax.specs.declared.state.RuleHead.{RuleHead}
 use Rattle.file_syntax.specs.declared.state.RulePart.TheVariants.{PastSubject}
@@ -17,7 +17,7 @@ use Rattle.file_syntax.specs.declared.state.Top.{Top}
 use Rattle.file_syntax.specs.declared.state.Top.TheVariants.{Between, DataNames, InRule, TypeStart, GroupEnd, StarEnd, Arguments}
 use Rattle.file_syntax.specs.declared.state.Frame.{Frame}
 use Rattle.file_syntax.specs.declared.state.Frame.TheVariants.{Declared, Brace, Group, Argument}
-use Rattle.file_syntax.specs.Trees.{Tree, applied, Classifier, family, star, Binding, pi_of, arrow_of, bind}
+use Rattle.file_trees.specs.Trees.{Tree, applied, Classifier, family, star, Binding, pi_of, arrow_of, bind}
 use Rattle.file_syntax.specs.Productions.{joined, up_to, IsBound, a_name, a_variable, IsTerm, abstracts, applies, IsArgument, name, variable, term, AreArguments, no_more, one_more, IsType, binds, ends, goes_to, IsSimple, family_of, group, IsKind, is_type, kind_binds, kind_goes_to, IsPhase, norm, safe, unsafe, IsBuilder, apply, constructors, cases, forward, destruct, IsMajor, no_major, major_at, IsSet, no_set, set_in, AreNames, no_name, one_name, IsDecl, a_family, a_const, a_theorem, some_data, a_rule, IsFile, no_decl, one_decl}
 use Rattle.file_syntax.specs.Reading.{at_top, phase_of, builder_of, with_phase, with_builder, went_on, rule_from, abstracted, close_type, past_arrow, move, run, start}
 use Rattle.file_syntax.proofs.Abstractions.{abstracted_append, bind_append}

@@ -1,17 +1,17 @@
 -- What a run that ends between two declarations has read: each part of it is a part of the grammar.
 use Rattle.std.proofs.Common.{◌≡◌, ℕ, zero, suc, ◌<◌, List, [], ◌∷◌, ◌++◌, length, Option, Some, None, sym, subst, arith}
 use Rattle.std.proofs.lemmas.List.{append-nil, append_assoc}
-use Rattle.file_syntax.specs.declared.span.Span.{Span}
+use Rattle.file_trees.specs.declared.span.Span.{Span}
 use Rattle.file_syntax.specs.declared.sign.Sign.{Sign}
 use Rattle.file_syntax.specs.declared.sign.Sign.TheVariants.{Word, Var, LParen, RParen, LBracket, RBracket}
-use Rattle.file_syntax.specs.declared.decl_tree.DeclTree.{DeclTree}
+use Rattle.file_trees.specs.declared.decl_tree.DeclTree.{DeclTree}
 use Rattle.file_syntax.specs.declared.state.Owner.{Owner}
 use Rattle.file_syntax.specs.declared.state.Owner.TheVariants.{Term as of_term}
 use Rattle.file_syntax.specs.declared.state.Top.TheVariants.{Between, Arguments, AbsName, AbsClose}
 use Rattle.file_syntax.specs.declared.state.Frame.{Frame}
 use Rattle.file_syntax.specs.declared.state.Frame.TheVariants.{Argument}
 use Rattle.file_syntax.specs.declared.state.State.{State}
-use Rattle.file_syntax.specs.Trees.{Tree, abstraction, applied}
+use Rattle.file_trees.specs.Trees.{Tree, abstraction, applied}
 use Rattle.file_syntax.specs.Productions.{joined, IsBound, a_name, a_variable, IsTerm, abstracts, applies, IsArgument, name, variable, term, AreArguments, no_more, one_more}
 use Rattle.file_syntax.specs.Reading.{at_top, abstracted, no_argument, stepped}
 use Rattle.file_syntax.proofs.Abstractions.{abstracted_append}

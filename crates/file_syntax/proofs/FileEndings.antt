@@ -1,15 +1,15 @@
 -- What a run that ends between two declarations has read: the declarations of a file.
 use Rattle.std.proofs.Common.{◌≡◌, ℕ, zero, suc, ◌<◌, ◌≤◌, List, [], ◌∷◌, ◌++◌, length, Option, Some, None, refl, sym, ◌∙◌, subst, arith}
 use Rattle.std.proofs.lemmas.List.{append-nil, append_assoc}
-use Rattle.file_syntax.specs.declared.span.Span.{Span}
+use Rattle.file_trees.specs.declared.span.Span.{Span}
 use Rattle.file_syntax.specs.declared.sign.Keyword.{Keyword}
 use Rattle.file_syntax.specs.declared.sign.Keyword.TheVariants.{Family as family_word, Const as const_word, Theorem as theorem_word, Data as data_word, Rule as rule_word, Norm as norm_word, Safe as safe_word, Unsafe as unsafe_word, Apply as apply_word, Constructors as constructors_word, Cases as cases_word, Forward as forward_word, Destruct as destruct_word, At as at_word, In as in_word}
 use Rattle.file_syntax.specs.declared.sign.Sign.{Sign}
 use Rattle.file_syntax.specs.declared.sign.Sign.TheVariants.{Word, Number, Colon, Dot, Equals}
-use Rattle.file_syntax.specs.declared.decl_tree.DeclTree.{DeclTree}
-use Rattle.file_syntax.specs.declared.decl_tree.DeclTree.TheVariants.{Family as family_tree, Const as const_tree, Theorem as theorem_tree, Ctors as ctors_tree}
-use Rattle.file_syntax.specs.declared.decl_tree.PhaseWord.{PhaseWord}
-use Rattle.file_syntax.specs.declared.decl_tree.BuildWord.{BuildWord}
+use Rattle.file_trees.specs.declared.decl_tree.DeclTree.{DeclTree}
+use Rattle.file_trees.specs.declared.decl_tree.DeclTree.TheVariants.{Family as family_tree, Const as const_tree, Theorem as theorem_tree, Ctors as ctors_tree}
+use Rattle.file_trees.specs.declared.decl_tree.PhaseWord.{PhaseWord}
+use Rattle.file_trees.specs.declared.decl_tree.BuildWord.{BuildWord}
 use Rattle.file_syntax.specs.declared.state.Goal.{Goal}
 use Rattle.file_syntax.specs.declared.state.Goal.TheVariants.{Family as goal_family, Const as goal_const, Theorem as goal_theorem}
 use Rattle.file_syntax.specs.declared.state.RuleHead.{RuleHead}
@@ -18,7 +18,7 @@ use Rattle.file_syntax.specs.declared.state.RulePart.TheVariants.{ToName, ToColo
 use Rattle.file_syntax.specs.declared.state.Top.TheVariants.{Between, GoalName, GoalColon, DataName, DataEquals, DataNames, InRule, TypeStart}
 use Rattle.file_syntax.specs.declared.state.Frame.{Frame}
 use Rattle.file_syntax.specs.declared.state.Frame.TheVariants.{Declared}
-use Rattle.file_syntax.specs.Trees.{Classifier}
+use Rattle.file_trees.specs.Trees.{Classifier}
 use Rattle.file_syntax.specs.Productions.{IsType, IsPhase, norm, safe, unsafe, IsBuilder, apply, constructors, cases, forward, destruct, IsMajor, no_major, major_at, IsSet, no_set, set_in, AreNames, no_name, one_name, IsDecl, a_family, a_const, a_theorem, some_data, a_rule, IsFile, no_decl, one_decl}
 use Rattle.file_syntax.specs.Reading.{at_top, rule_from, close_type, start}
 use Rattle.file_syntax.proofs.Endings.{Ends, ends_none}

@@ -1,4 +1,3 @@
-pub mod TreeLists
 pub mod Abstractions
 pub mod Derivations
 pub mod Endings

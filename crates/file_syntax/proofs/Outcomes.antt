@@ -5,7 +5,7 @@ use Rattle.std.proofs.lemmas.List.{append-nil, map-append, take-append-drop}
 use Rattle.std.proofs.Math.Seq.{drop-cons, take-nil, take-length}
 use Rattle.lex_text.specs.declared.token.Token.{Token}
 use Rattle.file_syntax.specs.declared.sign.Sign.{Sign}
-use Rattle.file_syntax.specs.declared.decl_tree.DeclTree.{DeclTree}
+use Rattle.file_trees.specs.declared.decl_tree.DeclTree.{DeclTree}
 use Rattle.file_syntax.specs.declared.state.Top.{Top}
 use Rattle.file_syntax.specs.declared.state.Top.TheVariants.{Between}
 use Rattle.file_syntax.specs.declared.state.State.{State}

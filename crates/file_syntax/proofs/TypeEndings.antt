@@ -1,17 +1,17 @@
 -- What a run that ends between two declarations has read of types and kinds.
 use Rattle.std.proofs.Common.{◌≡◌, ℕ, zero, suc, ◌<◌, false, if◌then◌else◌, List, [], ◌∷◌, ◌++◌, length, None, refl, subst, arith}
-use Rattle.file_syntax.specs.declared.span.Span.{Span}
+use Rattle.file_trees.specs.declared.span.Span.{Span}
 use Rattle.file_syntax.specs.declared.sign.Keyword.{Keyword}
 use Rattle.file_syntax.specs.declared.sign.Sign.{Sign}
 use Rattle.file_syntax.specs.declared.sign.Sign.TheVariants.{TypeWord, Word, Var, Colon, Dot, Arrow, LParen, RParen, LBrace, RBrace}
-use Rattle.file_syntax.specs.declared.decl_tree.DeclTree.{DeclTree}
-use Rattle.file_syntax.specs.declared.decl_tree.DeclTree.TheVariants.{Family as family_tree}
+use Rattle.file_trees.specs.declared.decl_tree.DeclTree.{DeclTree}
+use Rattle.file_trees.specs.declared.decl_tree.DeclTree.TheVariants.{Family as family_tree}
 use Rattle.file_syntax.specs.declared.state.Goal.TheVariants.{Family as goal_family}
 use Rattle.file_syntax.specs.declared.state.Owner.TheVariants.{Family as of_family}
 use Rattle.file_syntax.specs.declared.state.Top.TheVariants.{Between, TypeStart, PiName, PiColon, GroupEnd, StarEnd}
 use Rattle.file_syntax.specs.declared.state.Frame.{Frame}
 use Rattle.file_syntax.specs.declared.state.Frame.TheVariants.{Declared, Brace, Group}
-use Rattle.file_syntax.specs.Trees.{Tree, Classifier, pi, arrow, family, star, Binding, pi_of, arrow_of, bind}
+use Rattle.file_trees.specs.Trees.{Tree, Classifier, pi, arrow, family, star, Binding, pi_of, arrow_of, bind}
 use Rattle.file_syntax.specs.Productions.{up_to, IsBound, a_name, a_variable, IsType, binds, ends, goes_to, IsSimple, family_of, group, IsKind, is_type, kind_binds, kind_goes_to}
 use Rattle.file_syntax.specs.Reading.{at_top, close_type, no_argument, stands_at_kind}
 use Rattle.file_syntax.proofs.Abstractions.{bind_append}

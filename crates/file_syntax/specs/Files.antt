@@ -2,7 +2,7 @@
 use Rattle.std.specs.Prelude.{◌≡◌, ℕ, ◌<◌, List, [], ◌∷◌, ◌++◌}
 use Rattle.lex_text.specs.declared.token.Token.{Token}
 use Rattle.file_syntax.specs.declared.sign.Sign.{Sign}
-use Rattle.file_syntax.specs.declared.decl_tree.DeclTree.{DeclTree}
+use Rattle.file_trees.specs.declared.decl_tree.DeclTree.{DeclTree}
 use Rattle.file_syntax.specs.declared.parse_fault.ParseFault.{ParseFault}
 use Rattle.file_syntax.specs.declared.parse_fault.ParseFault.TheVariants.{Expected, TooDeep, NoMemory}
 use Rattle.file_syntax.specs.Signs.{sign_of, signs_of}

@@ -1,12 +1,5 @@
-pub mod Trees
-pub mod TreeCodes
-pub mod TermViews
-pub mod TermSizes
-pub mod TypeViews
-pub mod TypeSizes
 pub mod Signs
 pub mod Productions
 pub mod Nesting
 pub mod Files
-pub mod Places
 pub mod Reading

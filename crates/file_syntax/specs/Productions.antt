@@ -1,18 +1,18 @@
 -- The grammar of files: which signs are which terms, types, kinds, declarations and files. A constructor stands for a production.
 -- `IsTerm signs rest tree` says that the signs are a term with this tree, and then `rest`.
 use Rattle.std.specs.Prelude.{List, [], ◌∷◌, Option, Some, None}
-use Rattle.file_syntax.specs.declared.span.Span.{Span}
+use Rattle.file_trees.specs.declared.span.Span.{Span}
 use Rattle.file_syntax.specs.declared.sign.Keyword.{Keyword}
 use Rattle.file_syntax.specs.declared.sign.Keyword.TheVariants.{Family as family_word, Const as const_word, Theorem as theorem_word, Data as data_word, Rule as rule_word, Norm as norm_word, Safe as safe_word, Unsafe as unsafe_word, Apply as apply_word, Constructors as constructors_word, Cases as cases_word, Forward as forward_word, Destruct as destruct_word, At as at_word, In as in_word}
 use Rattle.file_syntax.specs.declared.sign.Sign.{Sign}
 use Rattle.file_syntax.specs.declared.sign.Sign.TheVariants.{TypeWord, Word, Var, Number, Colon, Dot, Equals, Arrow, LParen, RParen, LBrace, RBrace, LBracket, RBracket}
-use Rattle.file_syntax.specs.declared.decl_tree.PhaseWord.{PhaseWord}
-use Rattle.file_syntax.specs.declared.decl_tree.PhaseWord.TheVariants.{Norm, Safe, Unsafe}
-use Rattle.file_syntax.specs.declared.decl_tree.BuildWord.{BuildWord}
-use Rattle.file_syntax.specs.declared.decl_tree.BuildWord.TheVariants.{Apply, Constructors, Cases, Forward, Destruct}
-use Rattle.file_syntax.specs.declared.decl_tree.DeclTree.{DeclTree}
-use Rattle.file_syntax.specs.declared.decl_tree.DeclTree.TheVariants.{Family as family_tree, Const as const_tree, Theorem as theorem_tree, Rule as rule_tree, Ctors as ctors_tree}
-use Rattle.file_syntax.specs.Trees.{Tree, leaf, abstraction, applied, Classifier, pi, arrow, family, star}
+use Rattle.file_trees.specs.declared.decl_tree.PhaseWord.{PhaseWord}
+use Rattle.file_trees.specs.declared.decl_tree.PhaseWord.TheVariants.{Norm, Safe, Unsafe}
+use Rattle.file_trees.specs.declared.decl_tree.BuildWord.{BuildWord}
+use Rattle.file_trees.specs.declared.decl_tree.BuildWord.TheVariants.{Apply, Constructors, Cases, Forward, Destruct}
+use Rattle.file_trees.specs.declared.decl_tree.DeclTree.{DeclTree}
+use Rattle.file_trees.specs.declared.decl_tree.DeclTree.TheVariants.{Family as family_tree, Const as const_tree, Theorem as theorem_tree, Rule as rule_tree, Ctors as ctors_tree}
+use Rattle.file_trees.specs.Trees.{Tree, leaf, abstraction, applied, Classifier, pi, arrow, family, star}
 
 -- from the start of one part through the end of another
 abbrev pub joined : Span → Span → Span

@@ -1,17 +1,17 @@
 -- Reading a file from the left: what each sign does to what was read before it, and where it is refused.
 -- Only contracts of private functions cite these definitions. What `parse` promises is stated without them, by the grammar.
 use Rattle.std.specs.Prelude.{Bool, true, false, if◌then◌else◌, List, [], ◌∷◌, ◌++◌, Option, Some, None}
-use Rattle.file_syntax.specs.declared.span.Span.{Span}
+use Rattle.file_trees.specs.declared.span.Span.{Span}
 use Rattle.file_syntax.specs.declared.sign.Keyword.{Keyword}
 use Rattle.file_syntax.specs.declared.sign.Keyword.TheVariants.{Family as family_word, Const as const_word, Theorem as theorem_word, Data as data_word, Rule as rule_word, Norm as norm_word, Safe as safe_word, Unsafe as unsafe_word, Apply as apply_word, Constructors as constructors_word, Cases as cases_word, Forward as forward_word, Destruct as destruct_word, At as at_word, In as in_word}
 use Rattle.file_syntax.specs.declared.sign.Sign.{Sign}
 use Rattle.file_syntax.specs.declared.sign.Sign.TheVariants.{TypeWord, Word, Var, Number, Colon, Dot, Equals, Arrow, LParen, RParen, LBrace, RBrace, LBracket, RBracket}
-use Rattle.file_syntax.specs.declared.decl_tree.PhaseWord.{PhaseWord}
-use Rattle.file_syntax.specs.declared.decl_tree.PhaseWord.TheVariants.{Norm, Safe, Unsafe}
-use Rattle.file_syntax.specs.declared.decl_tree.BuildWord.{BuildWord}
-use Rattle.file_syntax.specs.declared.decl_tree.BuildWord.TheVariants.{Apply, Constructors, Cases, Forward, Destruct}
-use Rattle.file_syntax.specs.declared.decl_tree.DeclTree.{DeclTree}
-use Rattle.file_syntax.specs.declared.decl_tree.DeclTree.TheVariants.{Family as family_tree, Const as const_tree, Theorem as theorem_tree, Rule as rule_tree, Ctors as ctors_tree}
+use Rattle.file_trees.specs.declared.decl_tree.PhaseWord.{PhaseWord}
+use Rattle.file_trees.specs.declared.decl_tree.PhaseWord.TheVariants.{Norm, Safe, Unsafe}
+use Rattle.file_trees.specs.declared.decl_tree.BuildWord.{BuildWord}
+use Rattle.file_trees.specs.declared.decl_tree.BuildWord.TheVariants.{Apply, Constructors, Cases, Forward, Destruct}
+use Rattle.file_trees.specs.declared.decl_tree.DeclTree.{DeclTree}
+use Rattle.file_trees.specs.declared.decl_tree.DeclTree.TheVariants.{Family as family_tree, Const as const_tree, Theorem as theorem_tree, Rule as rule_tree, Ctors as ctors_tree}
 use Rattle.file_syntax.specs.declared.state.Goal.{Goal}
 use Rattle.file_syntax.specs.declared.state.Goal.TheVariants.{Family as a_family, Const as a_const, Theorem as a_theorem}
 use Rattle.file_syntax.specs.declared.state.RuleHead.{RuleHead}
@@ -25,7 +25,7 @@ use Rattle.file_syntax.specs.declared.state.Frame.{Frame}
 use Rattle.file_syntax.specs.declared.state.Frame.TheVariants.{Declared, Brace, Group, Argument}
 use Rattle.file_syntax.specs.declared.state.State.{State}
 use Rattle.file_syntax.specs.Productions.{joined, up_to}
-use Rattle.file_syntax.specs.Trees.{Tree, leaf, abstraction, applied, Classifier, family, star, Binding, pi_of, arrow_of, bind}
+use Rattle.file_trees.specs.Trees.{Tree, leaf, abstraction, applied, Classifier, family, star, Binding, pi_of, arrow_of, bind}
 
 abbrev pub at_top : List DeclTree → List Frame → Top → Option State
 at_top decls frames top = Some (record { decls = decls; frames = frames; top = top })

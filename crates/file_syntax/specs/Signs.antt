@@ -5,7 +5,7 @@ use Rattle.lex_text.specs.declared.mark.Mark.{Mark}
 use Rattle.lex_text.specs.declared.mark.Mark.TheVariants.{Word as a_word, Var as a_variable, Number as a_number, Colon as a_colon, Dot as a_dot, Equals as an_equals, Arrow as an_arrow, LParen as an_lparen, RParen as an_rparen, LBrace as an_lbrace, RBrace as an_rbrace, LBracket as an_lbracket, RBracket as an_rbracket}
 use Rattle.lex_text.specs.declared.token.Token.{Token}
 use Rattle.lex_text.specs.Tokens.{text_of}
-use Rattle.file_syntax.specs.declared.span.Span.{Span}
+use Rattle.file_trees.specs.declared.span.Span.{Span}
 use Rattle.file_syntax.specs.declared.sign.Keyword.{Keyword}
 use Rattle.file_syntax.specs.declared.sign.Keyword.TheVariants.{Family, Const, Theorem, Data, Rule, Norm, Safe, Unsafe, Apply, Constructors, Cases, Forward, Destruct, At, In, Other}
 use Rattle.file_syntax.specs.declared.sign.Sign.{Sign}

@@ -6,12 +6,12 @@ ghost use Rattle.file_syntax.specs.Files.{IsParsed, IsFaultOf, IsOneFile};
 ghost use Rattle.file_syntax.specs.Reading.{start};
 ghost use Rattle.lex_text.specs.declared.token.Token.{Token};
 
-use crate::decl_tree::{DeclTrees, FileTree};
 use crate::nesting::Nesting;
 use crate::parse_fault::ParseFault;
 use crate::sign::sign_at;
 use crate::state::{Frames, State, Stop, Top};
 use crate::steps::step;
+use file_trees::{DeclTrees, FileTree};
 use lex_text::{Token, Tokens};
 use std::alloc::Global;
 

@@ -3,10 +3,9 @@
 ghost use Rattle.std.specs.Prelude.{◌≡◌, ◌++◌, ◌∷◌, [], IfOk, IsErrOf, None, Some};
 ghost use Rattle.file_syntax.specs.Reading.{phase_of, builder_of, next_part, next_word, next_number, next_colon, past_subject, past_major, rule_from, ended_rule, in_rule, ended};
 
-use crate::decl_tree::{BuildWord, DeclTree, PhaseWord};
 use crate::sign::{Keyword, Sign};
-use crate::span::Span;
 use crate::state::{RuleHead, RulePart, State, Stop, Top};
+use file_trees::{BuildWord, DeclTree, PhaseWord, Span};
 
 fn phase_of(word: Keyword) -> Option<PhaseWord>
     ensures { result ≡ phase_of word }

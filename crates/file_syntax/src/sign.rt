@@ -4,7 +4,7 @@ ghost use Rattle.std.specs.Prelude.{◌≡◌, ◌≤◌, ◌<◌, length};
 ghost use Rattle.lex_text.specs.Tokens.{IsWithin};
 ghost use Rattle.file_syntax.specs.Signs.{keyword_of, word_of, sign_of};
 
-use crate::span::Span;
+use file_trees::Span;
 use lex_text::{Mark, Token};
 
 /// The words that the grammar has in some places. Each may be a name in others.

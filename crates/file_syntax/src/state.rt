@@ -3,11 +3,7 @@
 ghost use Rattle.std.specs.Prelude.{◌≡◌, [], ◌∷◌, IfOk, MatchOption};
 ghost use Rattle.file_syntax.specs.Reading.{stands_at_kind};
 
-use crate::decl_tree::{BuildWord, DeclTrees, PhaseWord};
-use crate::span::Span;
-use crate::spans::Spans;
-use crate::term_tree::TermTrees;
-use crate::type_tree::{Binders, TypeTree};
+use file_trees::{Binders, BuildWord, DeclTrees, PhaseWord, Span, Spans, TermTrees, TypeTree};
 use std::alloc::{AllocError, Global};
 use std::marker::Model;
 

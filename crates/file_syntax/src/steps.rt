@@ -3,15 +3,12 @@
 ghost use Rattle.std.specs.Prelude.{◌≡◌, ◌++◌, ◌∷◌, [], IfOk, IsErrOf, None, Some};
 ghost use Rattle.file_syntax.specs.Reading.{begun, between, goal_name, goal_colon, data_name, data_equals, data_names, step};
 
-use crate::decl_tree::DeclTree;
 use crate::rule_steps::in_rule;
 use crate::sign::{Keyword, Sign};
-use crate::span::Span;
-use crate::spans::Spans;
 use crate::state::{Frame, Goal, RulePart, State, Stop, Top};
 use crate::term_steps::{abs_close, abs_name, among_arguments};
 use crate::type_steps::{group_end, pi_colon, pi_name, star_end, type_start};
-use crate::type_tree::Binders;
+use file_trees::{Binders, DeclTree, Span, Spans};
 use std::alloc::Global;
 use std::mem;
 

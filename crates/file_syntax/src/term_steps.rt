@@ -2,16 +2,13 @@
 
 ghost use Rattle.std.specs.Prelude.{◌≡◌, ◌++◌, ◌∷◌, [], IfOk, IsErrOf, None, Some};
 ghost use Rattle.file_syntax.specs.Reading.{more_arguments, abstracted, close_term, family_arguments, term_arguments, no_argument, among_arguments, abs_name, abs_close};
-ghost use Rattle.file_syntax.specs.Trees.{applied};
-ghost use Rattle.file_syntax.specs.TermViews.{tree_of};
+ghost use Rattle.file_trees.specs.Trees.{applied};
+ghost use Rattle.file_trees.specs.TermViews.{tree_of};
 
 use crate::sign::Sign;
-use crate::span::Span;
-use crate::spans::Spans;
 use crate::state::{Frame, Owner, State, Stop, Top};
-use crate::term_tree::{Part, TermTree, TermTrees};
 use crate::type_steps::{close_type, past_arrow};
-use crate::type_tree::{Binders, TypeTree};
+use file_trees::{Binders, Part, Span, Spans, TermTree, TermTrees, TypeTree};
 use std::alloc::{AllocError, Global};
 
 /// One more argument is read.

@@ -4,6 +4,7 @@ ghost use Rattle.std.specs.Prelude.{◌<◌, ◌^◌, length};
 
 use crate::parse_fault::ParseFault;
 use crate::parsing::parse;
+use file_trees::{DeclTree, Last, TermTrees, place};
 use lex_text::LexFault;
 use lex_text::tokens::tokens;
 use std::alloc::{AllocError, Global};
@@ -215,5 +216,30 @@ fn each_front_of_a_file_is_read_or_refused_where_it_is_cut(rt: HostRuntime) -> R
             "{count} bytes"
         );
     }
+    Ok(())
+}
+
+/// Adds the place of each term.
+fn add_places(places: &mut Vec<u32>, terms: &TermTrees) -> Result<(), AllocError> {
+    for term in terms.as_slice() {
+        places.push(place(term))?;
+    }
+    Ok(())
+}
+
+#[test]
+fn terms_have_their_places(rt: HostRuntime) -> Result<(), Fail> {
+    let bytes = b"const c : q a ([x] [y] a) (f (g) _) (([x] x) b).".as_slice();
+    let cut = tokens(rt.alloc(), bytes)?;
+    let file = parse(rt.alloc(), bytes, &cut)?;
+    let mut places = Vec::new(rt.alloc());
+    for declaration in file.decls.as_slice() {
+        if let DeclTree::Const(_, tree) = declaration {
+            if let (_, Last::Fam(_, arguments)) = tree.parts() {
+                add_places(&mut places, arguments)?;
+            }
+        }
+    }
+    assert_eq!(rt; places.as_slice(), [12, 15, 27, 38].as_slice());
     Ok(())
 }

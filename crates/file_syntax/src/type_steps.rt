@@ -2,15 +2,12 @@
 
 ghost use Rattle.std.specs.Prelude.{◌≡◌, ◌++◌, ◌∷◌, [], IfOk, IsErrOf, None, Some};
 ghost use Rattle.file_syntax.specs.Reading.{type_start, pi_name, pi_colon, typed, close_brace, past_arrow, close_type, group_end, close_kind, star_end};
-ghost use Rattle.file_syntax.specs.Trees.{bind, star};
+ghost use Rattle.file_trees.specs.Trees.{bind, star};
 
-use crate::decl_tree::DeclTree;
 use crate::rule_steps::ended;
 use crate::sign::Sign;
-use crate::span::Span;
 use crate::state::{Frame, Goal, Owner, State, Stop, Top};
-use crate::term_tree::TermTrees;
-use crate::type_tree::{Binder, Binders, TypeTree};
+use file_trees::{Binder, Binders, DeclTree, Span, TermTrees, TypeTree};
 use std::alloc::Global;
 
 /// Before a part of a type.

@@ -1,5 +1,5 @@
 use Rattle.std.proofs.Common.{List, [], Option, None, Some, sym, ap, ◌∙◌}
-use Rattle.file_syntax.specs.declared.decl_tree.DeclTree.{DeclTree}
+use Rattle.file_trees.specs.declared.decl_tree.DeclTree.{DeclTree}
 use Rattle.file_syntax.specs.declared.state.State.{State}
 use Rattle.file_syntax.proofs.Derivations.{run-file}
 use Rattle.file_syntax.proofs.parsing.a_file_has_one_tree.Goals as goal

@@ -1,6 +1,6 @@
 use Rattle.std.proofs.Common.{◌≡◌, length}
 use Rattle.file_syntax.specs.Reading.{abstracted}
-use Rattle.file_syntax.specs.TermViews.{tree_of}
+use Rattle.file_trees.specs.TermViews.{tree_of}
 use Rattle.file_syntax.proofs.term_steps.abstracted.Given as goal
 
 -- the abstractions made so far with those that are left

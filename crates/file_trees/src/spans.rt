@@ -14,7 +14,7 @@ pub struct Spans {
 
 impl Model for Spans {
     ghost use Rattle.std.specs.Prelude.{List};
-    ghost use Rattle.file_syntax.specs.declared.span.Span.{Span};
+    ghost use Rattle.file_trees.specs.declared.span.Span.{Span};
 
     ghost Value = { List Span };
 

@@ -2,8 +2,8 @@
 use Rattle.std.specs.Prelude.{◌≡◌, ℕ, zero, suc, List, [], ◌∷◌}
 use Rattle.std.specs.Coded.{Coded, code_by, coded×, coded_ℕ, coded_list}
 use mathlib.Core.Path.{refl, ap, ap₂, ◌∙◌}
-use Rattle.file_syntax.specs.declared.span.Span.{Span}
-use Rattle.file_syntax.specs.Trees.{Tree, leaf, abstraction, head, apply, Classifier, pi, arrow, family, star, Binding, pi_of, arrow_of}
+use Rattle.file_trees.specs.declared.span.Span.{Span}
+use Rattle.file_trees.specs.Trees.{Tree, leaf, abstraction, head, apply, Classifier, pi, arrow, family, star, Binding, pi_of, arrow_of}
 
 abbrev Part : Type 0
 Part = ℕ × Span

@@ -1,7 +1,7 @@
 //! Terms as they are written.
 
 ghost use Rattle.std.specs.Prelude.{◌≡◌, ◌++◌, [], ◌∷◌, IfOk, MatchOption, length};
-ghost use Rattle.file_syntax.specs.TermViews.{tree_of, trees_of, has_none};
+ghost use Rattle.file_trees.specs.TermViews.{tree_of, trees_of, has_none};
 
 use crate::span::Span;
 use std::alloc::{AllocError, Global};
@@ -25,20 +25,20 @@ pub struct Part {
 }
 
 impl Model for Part {
-    ghost use Rattle.file_syntax.specs.Trees.{Tree, tree_size};
-    ghost use Rattle.file_syntax.specs.TreeCodes.{tree_code};
+    ghost use Rattle.file_trees.specs.Trees.{Tree, tree_size};
+    ghost use Rattle.file_trees.specs.TreeCodes.{tree_code};
 
     ghost Value = { Tree };
 
     ghost coded = { tree_code };
 
-    ghost use Rattle.file_syntax.specs.TermViews.{tree_of};
+    ghost use Rattle.file_trees.specs.TermViews.{tree_of};
 
     ghost view = { λ a. tree_of a.inner.value };
 
     ghost size = { tree_size };
 
-    ghost use Rattle.file_syntax.specs.TermSizes.{part_falls};
+    ghost use Rattle.file_trees.specs.TermSizes.{part_falls};
 
     ghost size_decreases = { λ a h. part_falls a };
 }
@@ -53,20 +53,20 @@ pub struct TermTrees {
 impl Model for TermTrees {
     ghost use Rattle.std.specs.Prelude.{List};
     ghost use Rattle.std.specs.Coded.{coded_list};
-    ghost use Rattle.file_syntax.specs.Trees.{Tree, trees_size};
-    ghost use Rattle.file_syntax.specs.TreeCodes.{tree_code};
+    ghost use Rattle.file_trees.specs.Trees.{Tree, trees_size};
+    ghost use Rattle.file_trees.specs.TreeCodes.{tree_code};
 
     ghost Value = { List Tree };
 
     ghost coded = { coded_list tree_code };
 
-    ghost use Rattle.file_syntax.specs.TermViews.{trees_of};
+    ghost use Rattle.file_trees.specs.TermViews.{trees_of};
 
     ghost view = { λ a. trees_of a.items.items };
 
     ghost size = { trees_size };
 
-    ghost use Rattle.file_syntax.specs.TermSizes.{trees_fall};
+    ghost use Rattle.file_trees.specs.TermSizes.{trees_fall};
 
     ghost size_decreases = { λ a h. trees_fall a };
 }

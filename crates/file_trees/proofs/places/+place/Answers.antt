@@ -1,6 +1,6 @@
 use Rattle.std.proofs.Common.{arith}
-use Rattle.file_syntax.proofs.Abstractions.{head_falls}
-use Rattle.file_syntax.proofs.places.+place.Goals as goal
+use Rattle.file_trees.proofs.Heads.{head_falls}
+use Rattle.file_trees.proofs.places.+place.Goals as goal
 
 -- the head of an application is smaller than the application
 pub place-requires : goal.place-requires

@@ -1,6 +1,6 @@
 -- The place of a term in its text.
 use Rattle.std.specs.Prelude.{ℕ}
-use Rattle.file_syntax.specs.Trees.{Tree, leaf, abstraction, head, apply}
+use Rattle.file_trees.specs.Trees.{Tree, leaf, abstraction, head, apply}
 
 -- The place of an abstraction is its bracket, and the place of an application is that of its head.
 abbrev pub tree_place : Tree → ℕ

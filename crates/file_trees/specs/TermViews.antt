@@ -1,8 +1,8 @@
 -- Terms, seen as trees.
 use Rattle.std.specs.Prelude.{Bool, true, false, List, [], ◌∷◌}
-use Rattle.file_syntax.specs.Trees.{Tree, leaf, abstraction, head, apply_all}
-use Rattle.file_syntax.specs.declared.term_tree.TermTree.{TermTree}
-use Rattle.file_syntax.specs.declared.term_tree.TermTree.TheVariants.{Abs, App, Leaf}
+use Rattle.file_trees.specs.Trees.{Tree, leaf, abstraction, head, apply_all}
+use Rattle.file_trees.specs.declared.term_tree.TermTree.{TermTree}
+use Rattle.file_trees.specs.declared.term_tree.TermTree.TheVariants.{Abs, App, Leaf}
 
 -- the term, whose parts are trees already
 abbrev pub tree_of : TermTree → Tree

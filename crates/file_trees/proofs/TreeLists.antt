@@ -1,9 +1,9 @@
 -- Lists of trees, seen one by one.
 use Rattle.std.proofs.Common.{◌≡◌, List, [], ◌∷◌, ◌++◌, length, refl, ap, arith}
-use Rattle.file_syntax.specs.TermViews.{tree_of, trees_of}
-use Rattle.file_syntax.specs.TypeViews.{binding_of, bindings_of}
-use Rattle.file_syntax.specs.declared.term_tree.TermTree.{TermTree}
-use Rattle.file_syntax.specs.declared.type_tree.Binder.{Binder}
+use Rattle.file_trees.specs.TermViews.{tree_of, trees_of}
+use Rattle.file_trees.specs.TypeViews.{binding_of, bindings_of}
+use Rattle.file_trees.specs.declared.term_tree.TermTree.{TermTree}
+use Rattle.file_trees.specs.declared.type_tree.Binder.{Binder}
 
 pub length_trees_of : (ts : List TermTree) → length (trees_of ts) ≡ length ts
 length_trees_of [] = refl

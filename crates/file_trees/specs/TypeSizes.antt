@@ -2,15 +2,15 @@
 use Rattle.std.specs.Prelude.{◌≢◌, ◌≤◌, ◌<◌, ◌+◌, List, [], ◌∷◌, refl}
 use Rattle.std.proofs.Common.{arith}
 use denote.Param.Weighed.{most}
-use Rattle.file_syntax.specs.Trees.{Classifier, pi, arrow, family, star, Binding, pi_of, arrow_of, bind, classifier_size, bindings_size}
-use Rattle.file_syntax.specs.TypeViews.{bindings_of, last_of, IsLast}
-use Rattle.file_syntax.specs.declared.type_tree.Binder.{Binder}
-use Rattle.file_syntax.specs.declared.type_tree.Binder.TheVariants.{Pi, Arrow}
-use Rattle.file_syntax.specs.declared.type_tree.Last.{Last}
-use Rattle.file_syntax.specs.declared.type_tree.Last.TheVariants.{Fam, Star, Group}
-use Rattle.file_syntax.specs.declared.type_tree.TypeTree.TheInside as tree
-use Rattle.file_syntax.specs.declared.type_tree.Binders.TheInside as binders
-use Rattle.file_syntax.specs.declared.type_tree.Binders.TheDeep.{deep-TypeTree, deep-Binder, deep-Binders}
+use Rattle.file_trees.specs.Trees.{Classifier, pi, arrow, family, star, Binding, pi_of, arrow_of, bind, classifier_size, bindings_size}
+use Rattle.file_trees.specs.TypeViews.{bindings_of, last_of, IsLast}
+use Rattle.file_trees.specs.declared.type_tree.Binder.{Binder}
+use Rattle.file_trees.specs.declared.type_tree.Binder.TheVariants.{Pi, Arrow}
+use Rattle.file_trees.specs.declared.type_tree.Last.{Last}
+use Rattle.file_trees.specs.declared.type_tree.Last.TheVariants.{Fam, Star, Group}
+use Rattle.file_trees.specs.declared.type_tree.TypeTree.TheInside as tree
+use Rattle.file_trees.specs.declared.type_tree.Binders.TheInside as binders
+use Rattle.file_trees.specs.declared.type_tree.Binders.TheDeep.{deep-TypeTree, deep-Binder, deep-Binders}
 
 pub some_size : (c : Classifier) → 0 < classifier_size c
 some_size (pi span domain rest) = omega arith

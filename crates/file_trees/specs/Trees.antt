@@ -1,6 +1,6 @@
 -- What a file's terms, types and kinds are, as plain data. A tree keeps the places of its parts.
 use Rattle.std.specs.Prelude.{ℕ, suc, ◌+◌, List, [], ◌∷◌}
-use Rattle.file_syntax.specs.declared.span.Span.{Span}
+use Rattle.file_trees.specs.declared.span.Span.{Span}
 
 -- A term. An application is its head, applied to its arguments one by one: `c M N` is `apply (apply (head c) M) N`.
 pub data Tree : Type 0 where

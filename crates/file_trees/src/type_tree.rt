@@ -1,8 +1,8 @@
 //! Types and kinds as they are written.
 
 ghost use Rattle.std.specs.Prelude.{◌≡◌, ◌++◌, [], ◌∷◌, IfOk};
-ghost use Rattle.file_syntax.specs.Trees.{bind, family, star};
-ghost use Rattle.file_syntax.specs.TypeViews.{binding_of, bindings_of, has_none, last_of, IsLast};
+ghost use Rattle.file_trees.specs.Trees.{bind, family, star};
+ghost use Rattle.file_trees.specs.TypeViews.{binding_of, bindings_of, has_none, last_of, IsLast};
 
 use crate::span::Span;
 use crate::term_tree::TermTrees;
@@ -45,15 +45,15 @@ pub enum Last {
 }
 
 impl Model for TypeTree {
-    ghost use Rattle.file_syntax.specs.Trees.{Classifier, classifier_size};
-    ghost use Rattle.file_syntax.specs.TreeCodes.{classifier_code};
+    ghost use Rattle.file_trees.specs.Trees.{Classifier, classifier_size};
+    ghost use Rattle.file_trees.specs.TreeCodes.{classifier_code};
 
     ghost Value = { Classifier };
 
     ghost coded = { classifier_code };
 
-    ghost use Rattle.file_syntax.specs.Trees.{bind};
-    ghost use Rattle.file_syntax.specs.TypeViews.{last_of, IsLast};
+    ghost use Rattle.file_trees.specs.Trees.{bind};
+    ghost use Rattle.file_trees.specs.TypeViews.{last_of, IsLast};
 
     ghost view = { λ a. bind a.binders (last_of a.last) };
 
@@ -61,7 +61,7 @@ impl Model for TypeTree {
 
     ghost size = { classifier_size };
 
-    ghost use Rattle.file_syntax.specs.TypeSizes.{type_falls};
+    ghost use Rattle.file_trees.specs.TypeSizes.{type_falls};
 
     ghost size_decreases = { λ a h. type_falls a h };
 }
@@ -69,20 +69,20 @@ impl Model for TypeTree {
 impl Model for Binders {
     ghost use Rattle.std.specs.Prelude.{List};
     ghost use Rattle.std.specs.Coded.{coded_list};
-    ghost use Rattle.file_syntax.specs.Trees.{Binding, bindings_size};
-    ghost use Rattle.file_syntax.specs.TreeCodes.{binding_code};
+    ghost use Rattle.file_trees.specs.Trees.{Binding, bindings_size};
+    ghost use Rattle.file_trees.specs.TreeCodes.{binding_code};
 
     ghost Value = { List Binding };
 
     ghost coded = { coded_list binding_code };
 
-    ghost use Rattle.file_syntax.specs.TypeViews.{bindings_of};
+    ghost use Rattle.file_trees.specs.TypeViews.{bindings_of};
 
     ghost view = { λ a. bindings_of a.items.items };
 
     ghost size = { bindings_size };
 
-    ghost use Rattle.file_syntax.specs.TypeSizes.{binders_fall};
+    ghost use Rattle.file_trees.specs.TypeSizes.{binders_fall};
 
     ghost size_decreases = { λ a h. binders_fall a };
 }

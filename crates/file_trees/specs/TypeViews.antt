@@ -1,10 +1,10 @@
 -- Types and kinds, seen as classifiers.
 use Rattle.std.specs.Prelude.{◌≢◌, Bool, true, false, List, [], ◌∷◌}
-use Rattle.file_syntax.specs.Trees.{Classifier, family, star, Binding, pi_of, arrow_of}
-use Rattle.file_syntax.specs.declared.type_tree.Binder.{Binder}
-use Rattle.file_syntax.specs.declared.type_tree.Binder.TheVariants.{Pi, Arrow}
-use Rattle.file_syntax.specs.declared.type_tree.Last.{Last}
-use Rattle.file_syntax.specs.declared.type_tree.Last.TheVariants.{Fam, Star, Group}
+use Rattle.file_trees.specs.Trees.{Classifier, family, star, Binding, pi_of, arrow_of}
+use Rattle.file_trees.specs.declared.type_tree.Binder.{Binder}
+use Rattle.file_trees.specs.declared.type_tree.Binder.TheVariants.{Pi, Arrow}
+use Rattle.file_trees.specs.declared.type_tree.Last.{Last}
+use Rattle.file_trees.specs.declared.type_tree.Last.TheVariants.{Fam, Star, Group}
 
 abbrev pub binding_of : Binder → Binding
 binding_of (Pi span domain) = pi_of span domain

@@ -53,8 +53,8 @@ pub struct FileTree {
 impl Model for DeclTrees {
     ghost use Rattle.std.specs.Prelude.{List};
     ghost use Rattle.std.specs.Coded.{coded_list};
-    ghost use Rattle.file_syntax.specs.declared.decl_tree.DeclTree.{DeclTree};
-    ghost use Rattle.file_syntax.specs.contracts.decl_tree.DeclTree as declaration;
+    ghost use Rattle.file_trees.specs.declared.decl_tree.DeclTree.{DeclTree};
+    ghost use Rattle.file_trees.specs.contracts.decl_tree.DeclTree as declaration;
 
     ghost Value = { List DeclTree };
 

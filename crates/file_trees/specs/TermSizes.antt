@@ -2,13 +2,13 @@
 use Rattle.std.specs.Prelude.{suc, ◌≤◌, ◌+◌, List, [], ◌∷◌}
 use Rattle.std.proofs.Common.{arith}
 use denote.Param.Weighed.{most}
-use Rattle.file_syntax.specs.Trees.{Tree, head, apply, apply_all, tree_size, trees_size}
-use Rattle.file_syntax.specs.TermViews.{tree_of, trees_of}
-use Rattle.file_syntax.specs.declared.term_tree.TermTree.{TermTree}
-use Rattle.file_syntax.specs.declared.term_tree.TermTree.TheVariants.{Abs, App, Leaf}
-use Rattle.file_syntax.specs.declared.term_tree.Part.TheInside as part
-use Rattle.file_syntax.specs.declared.term_tree.TermTrees.TheInside as trees
-use Rattle.file_syntax.specs.declared.term_tree.Part.TheDeep.{deep-Part, deep-TermTree, deep-TermTrees}
+use Rattle.file_trees.specs.Trees.{Tree, head, apply, apply_all, tree_size, trees_size}
+use Rattle.file_trees.specs.TermViews.{tree_of, trees_of}
+use Rattle.file_trees.specs.declared.term_tree.TermTree.{TermTree}
+use Rattle.file_trees.specs.declared.term_tree.TermTree.TheVariants.{Abs, App, Leaf}
+use Rattle.file_trees.specs.declared.term_tree.Part.TheInside as part
+use Rattle.file_trees.specs.declared.term_tree.TermTrees.TheInside as trees
+use Rattle.file_trees.specs.declared.term_tree.Part.TheDeep.{deep-Part, deep-TermTree, deep-TermTrees}
 
 pub applied_size : (tree : Tree) (arguments : List Tree) → tree_size tree + trees_size arguments ≤ suc (tree_size (apply_all tree arguments))
 applied_size tree [] = omega arith

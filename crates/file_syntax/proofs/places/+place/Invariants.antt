@@ -1,6 +1,0 @@
-use Rattle.file_syntax.specs.Trees.{tree_size}
-use Rattle.file_syntax.specs.TermViews.{tree_of}
-use Rattle.file_syntax.proofs.places.+place.Given as goal
-
-abbrev pub decreases-place : goal.decreases-place
-decreases-place l = tree_size (tree_of l.t.now)
