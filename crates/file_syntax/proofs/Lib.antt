@@ -1,3 +1,7 @@
-pub mod Fronts
-pub mod Declarations
-pub mod Flat
+pub mod Abstractions
+pub mod Derivations
+pub mod Endings
+pub mod TypeEndings
+pub mod FileEndings
+pub mod Completions
+pub mod Outcomes

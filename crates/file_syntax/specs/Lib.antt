@@ -1,4 +1,5 @@
-pub mod Grammar
-pub mod Numbers
-pub mod Names
-pub mod FlatFile
+pub mod Signs
+pub mod Productions
+pub mod Nesting
+pub mod Files
+pub mod Reading

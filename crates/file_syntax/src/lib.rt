@@ -1,20 +1,20 @@
-//! The files that a person writes: their grammar over the tokens of `lex_text`, and what their
-//! declarations may name. Names are found through `lf_terms`' look-up.
-//! Proved: `small_file` answers what a flat file declares, and refuses exactly what is no flat file.
+//! The grammar of files over the tokens of `lex_text`, whose answers are the trees of `file_trees`.
+//! Proved: `parse` answers the one tree that the grammar gives to the tokens of a text, and refuses
+//! exactly where no file goes on or what opens is nested too deep.
 #![tactic(auto)]
 
-pub mod declaration;
-mod draft;
-mod grammar;
-mod number;
-mod reading;
-pub mod small;
+mod nesting;
+pub mod parse_fault;
+pub mod parsing;
+mod rule_steps;
+pub mod sign;
+mod state;
+mod steps;
+mod term_steps;
 #[cfg(test)]
 mod tests;
+mod type_steps;
 
-pub use declaration::Declaration;
-pub use reading::{a_flat_file_is_one, small_file};
-pub use small::{
-    SmallConst, SmallConsts, SmallFault, SmallFile, SmallRule, SmallRules, SmallTheorem,
-    SmallTheorems,
-};
+pub use parse_fault::ParseFault;
+pub use parsing::{a_file_has_one_tree, parse};
+pub use sign::{Keyword, Sign};

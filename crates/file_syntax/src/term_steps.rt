@@ -1,0 +1,190 @@
+//! Steps within terms and among arguments.
+
+ghost use Rattle.std.specs.Prelude.{◌≡◌, ◌++◌, ◌∷◌, [], IfOk, IsErrOf, None, Some};
+ghost use Rattle.file_syntax.specs.Reading.{more_arguments, abstracted, close_term, family_arguments, term_arguments, no_argument, among_arguments, abs_name, abs_close};
+ghost use Rattle.file_trees.specs.Trees.{applied};
+ghost use Rattle.file_trees.specs.TermViews.{tree_of};
+
+use crate::sign::Sign;
+use crate::state::{Frame, Owner, State, Stop, Top};
+use crate::type_steps::{close_type, past_arrow};
+use file_trees::{Binders, Part, Span, Spans, TermTree, TermTrees, TypeTree};
+use std::alloc::{AllocError, Global};
+
+/// One more argument is read.
+fn more_arguments(
+    state: &mut State,
+    owner: Owner,
+    mut arguments: TermTrees,
+    argument: TermTree,
+) -> Result<(), Stop>
+    ensures ok { IfOk result (λ _. more_arguments state.old.decls state.old.frames owner arguments (tree_of argument) ≡ Some state.new) }
+    ensures refused { IsErrOf result Stop.Refused → more_arguments state.old.decls state.old.frames owner arguments (tree_of argument) ≡ None }
+{
+    arguments.push(argument)?;
+    state.top = Top::Arguments(owner, arguments);
+    Ok(())
+}
+
+/// The head applied to the arguments, or the head alone where there are none.
+fn applied(alloc: Global, head: TermTree, arguments: TermTrees) -> Result<TermTree, AllocError>
+    ensures { IfOk result (λ term. tree_of term ≡ applied (tree_of head) arguments) }
+{
+    if arguments.is_empty() {
+        return Ok(head);
+    }
+    let head = Part::new(alloc, head)?;
+    Ok(TermTree::App(head, arguments))
+}
+
+/// The term under its abstractions.
+#[tactic(auto, using(crate::proofs::Abstractions::abstracted_append))]
+fn abstracted(alloc: Global, mut spans: Spans, term: TermTree) -> Result<TermTree, AllocError>
+    ensures { IfOk result (λ whole. tree_of whole ≡ abstracted spans (tree_of term)) }
+{
+    let mut whole = term;
+    while let Some(span) = spans.pop() {
+        let body = Part::new(alloc, whole)?;
+        whole = TermTree::Abs(span, body);
+    }
+    Ok(whole)
+}
+
+/// A term in parentheses ends.
+fn close_term(state: &mut State, term: TermTree) -> Result<(), Stop>
+    ensures ok { IfOk result (λ _. close_term state.old.decls state.old.frames (tree_of term) ≡ Some state.new) }
+    ensures refused { IsErrOf result Stop.Refused → close_term state.old.decls state.old.frames (tree_of term) ≡ None }
+{
+    match state.frames.pop() {
+        Some(Frame::Argument(owner, arguments)) => { more_arguments(state, owner, arguments, term) }
+        _ => Err(Stop::Refused),
+    }
+}
+
+/// After a family and some arguments, at a sign that begins no argument.
+fn family_arguments(
+    alloc: Global,
+    state: &mut State,
+    binders: Binders,
+    head: Span,
+    arguments: TermTrees,
+    sign: Sign,
+) -> Result<(), Stop>
+    ensures ok { IfOk result (λ _. family_arguments state.old.decls state.old.frames binders head arguments sign ≡ Some state.new) }
+    ensures refused { IsErrOf result Stop.Refused → family_arguments state.old.decls state.old.frames binders head arguments sign ≡ None }
+{
+    if let Sign::Arrow(_) = sign {
+        let left = TypeTree::family(Binders::new(alloc), head, arguments);
+        return past_arrow(state, binders, left);
+    }
+    let tree = TypeTree::family(binders, head, arguments);
+    close_type(state, tree, sign)
+}
+
+/// After a head and some arguments, or before a head, at a sign that begins no argument.
+fn term_arguments(
+    alloc: Global,
+    state: &mut State,
+    binders: Spans,
+    arguments: TermTrees,
+    sign: Sign,
+) -> Result<(), Stop>
+    ensures ok { IfOk result (λ _. term_arguments state.old.decls state.old.frames binders arguments sign ≡ Some state.new) }
+    ensures refused { IsErrOf result Stop.Refused → term_arguments state.old.decls state.old.frames binders arguments sign ≡ None }
+{
+    match (arguments.split(), sign) {
+        (None, Sign::LBracket(bracket)) => {
+            state.top = Top::AbsName(binders, bracket);
+            Ok(())
+        }
+        (Some((head, rest)), Sign::RParen(_)) => {
+            let term = applied(alloc, head, rest)?;
+            let whole = abstracted(alloc, binders, term)?;
+            close_term(state, whole)
+        }
+        _ => Err(Stop::Refused),
+    }
+}
+
+/// Among arguments, at a sign that begins none.
+fn no_argument(
+    alloc: Global,
+    state: &mut State,
+    owner: Owner,
+    arguments: TermTrees,
+    sign: Sign,
+) -> Result<(), Stop>
+    ensures ok { IfOk result (λ _. no_argument state.old.decls state.old.frames owner arguments sign ≡ Some state.new) }
+    ensures refused { IsErrOf result Stop.Refused → no_argument state.old.decls state.old.frames owner arguments sign ≡ None }
+{
+    match owner {
+        Owner::Family(binders, head) => {
+            family_arguments(alloc, state, binders, head, arguments, sign)
+        }
+        Owner::Term(binders) => term_arguments(alloc, state, binders, arguments, sign),
+    }
+}
+
+/// Among arguments.
+pub(crate) fn among_arguments(
+    alloc: Global,
+    state: &mut State,
+    owner: Owner,
+    arguments: TermTrees,
+    sign: Sign,
+) -> Result<(), Stop>
+    ensures ok { IfOk result (λ _. among_arguments state.old.decls state.old.frames owner arguments sign ≡ Some state.new) }
+    ensures refused { IsErrOf result Stop.Refused → among_arguments state.old.decls state.old.frames owner arguments sign ≡ None }
+{
+    match sign {
+        Sign::Word(_, span) => { more_arguments(state, owner, arguments, TermTree::Leaf(span)) }
+        Sign::Var(span) => more_arguments(state, owner, arguments, TermTree::Leaf(span)),
+        Sign::LParen(_) => {
+            state.frames.push(Frame::Argument(owner, arguments))?;
+            state.top = Top::Arguments(Owner::Term(Spans::new(alloc)), TermTrees::new(alloc));
+            Ok(())
+        }
+        _ => no_argument(alloc, state, owner, arguments, sign),
+    }
+}
+
+/// After the bracket of an abstraction.
+pub(crate) fn abs_name(
+    state: &mut State,
+    binders: Spans,
+    bracket: Span,
+    sign: Sign,
+) -> Result<(), Stop>
+    ensures ok { IfOk result (λ _. abs_name state.old.decls state.old.frames binders bracket sign ≡ Some state.new) }
+    ensures refused { IsErrOf result Stop.Refused → abs_name state.old.decls state.old.frames binders bracket sign ≡ None }
+{
+    match sign {
+        Sign::Word(_, _) | Sign::Var(_) => {
+            state.top = Top::AbsClose(binders, bracket);
+            Ok(())
+        }
+        _ => Err(Stop::Refused),
+    }
+}
+
+/// After the name of an abstraction.
+pub(crate) fn abs_close(
+    alloc: Global,
+    state: &mut State,
+    mut binders: Spans,
+    bracket: Span,
+    sign: Sign,
+) -> Result<(), Stop>
+    ensures ok { IfOk result (λ _. abs_close state.old.decls state.old.frames binders bracket sign ≡ Some state.new) }
+    ensures refused { IsErrOf result Stop.Refused → abs_close state.old.decls state.old.frames binders bracket sign ≡ None }
+{
+    let Sign::RBracket(close) = sign else {
+        return Err(Stop::Refused);
+    };
+    binders.push(Span {
+        start: bracket.start,
+        end: close.end,
+    })?;
+    state.top = Top::Arguments(Owner::Term(binders), TermTrees::new(alloc));
+    Ok(())
+}

@@ -1,0 +1,8 @@
+//! Places of parts of a text.
+
+/// Where a part of a text starts and ends, in bytes. The byte at `end` is no part of it.
+#[derive(Clone, Copy, Debug, PartialEq, Eq)]
+pub struct Span {
+    pub start: u32,
+    pub end: u32,
+}
