@@ -3,7 +3,7 @@
 ghost use Rattle.std.specs.Prelude.{◌≡◌, ◌<◌, length, All, IfOk};
 ghost use Rattle.small_search.specs.RulesOf.{IsRulesOf};
 
-use file_syntax::SmallRule;
+use small_files::SmallRule;
 use lf_terms::NoMemory;
 use std::alloc::Global;
 

@@ -3,7 +3,7 @@
 use crate::numbered::is_numbered;
 use crate::table::Table;
 use crate::worklist::search;
-use file_syntax::{SmallConst, SmallConsts, SmallFile, SmallRule, SmallRules, SmallTheorems};
+use small_files::{SmallConst, SmallConsts, SmallFile, SmallRule, SmallRules, SmallTheorems};
 use lf_terms::{Ids, Name, Names};
 use std::alloc::Global;
 use std::test::Fail;

@@ -1,4 +1,0 @@
-pub mod Grammar
-pub mod Numbers
-pub mod Names
-pub mod FlatFile
