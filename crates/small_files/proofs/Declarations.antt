@@ -1,6 +1,5 @@
 -- A declaration gives one file at most, and so do tokens.
-use Rattle.std.proofs.Common.{◌≡◌, ℕ, ◌+◌, ◌<◌, ◌≤◌, List, [], ◌∷◌, ◌++◌, length, drop, refl, sym, subst, ap, ◌∙◌, arith, Some, Option, length-append, map}
-use Rattle.std.specs.Prelude.{pos, ℤ}
+use Rattle.std.proofs.Common.{◌≡◌, ℕ, ◌<◌, List, [], ◌∷◌, ◌++◌, length, drop, refl, sym, subst, ap, ◌∙◌, arith, Some, Option}
 use Rattle.lf_terms.specs.Places.{place_of}
 use Rattle.lex_text.specs.declared.token.Token.{Token}
 use Rattle.small_files.specs.declared.declaration.Declaration.{Declaration}

@@ -1,16 +1,16 @@
 -- The fronts of tokens that are declarations.
-use Rattle.std.proofs.Common.{◌≡◌, ℕ, ◌+◌, ◌-◌, ◌<◌, ◌≤◌, List, [], ◌∷◌, ◌++◌, length, drop, refl, sym, subst, ap, ◌∙◌, arith, ◌⊎◌, inl, inr, Bool, true, false, length-append, append_assoc}
-use Rattle.std.specs.Prelude.{codes}
-use Rattle.lex_text.specs.declared.mark.Mark.{Mark}
-use Rattle.lex_text.specs.declared.mark.Mark.TheVariants.{Word, Colon, Dot}
+use Rattle.std.proofs.Common.{◌≡◌, ℕ, ◌-◌, ◌<◌, ◌≤◌, List, [], ◌∷◌, ◌++◌, length, drop, refl, sym, subst, ap, ◌∙◌, arith, length-append, append_assoc}
+use Rattle.std.specs.Prelude.{All}
 use Rattle.lex_text.specs.declared.token.Token.{Token}
+use Rattle.lex_text.specs.Tokens.{IsWithin}
 use Rattle.small_files.specs.declared.declaration.Declaration.{Declaration}
 use Rattle.small_files.specs.declared.declaration.Declaration.TheVariants.{Family, Constant, Theorem, Rule}
-use Rattle.small_files.specs.Grammar.{IsWord, IsName, IsFamilyOfKindType, IsConstant, IsTheorem, IsUnsafeApply, IsDeclaration, family, constant, theorem, rule, Begins}
-use Rattle.small_files.specs.TypeFronts.{IsTypeFront, IsConstantHead}
+use Rattle.small_files.specs.Grammar.{IsDeclarationWithin, IsConstant, IsDeclaration, family, constant, theorem, rule, Begins}
+use Rattle.small_files.specs.TypeFronts.{IsTypeFront}
 use Rattle.small_files.specs.Fronts.{token_at, FamilyFront, TheoremFront, RuleFront, HeadFront, IsConstantFront}
-use Rattle.small_files.proofs.Types.{type_of_front, front_of_type, one_front, front_size}
+use Rattle.small_files.proofs.Types.{type_of_front, front_of_type, one_front, front_size, front_within}
 use Rattle.std.proofs.lemmas.List.{length-drop}
+use Rattle.std.proofs.lemmas.List.Elements.{All-drop}
 
 abbrev pub five_of : List Token → List Token
 five_of ts = token_at ts 0 ∷ token_at ts 1 ∷ token_at ts 2 ∷ token_at ts 3 ∷ token_at ts 4 ∷ []
@@ -158,3 +158,20 @@ front_some bytes ts d n (rule_front _ _ _ _ eight long _ _ _ _) = (omega arith, 
 -- a declaration takes some of the tokens, and no more than there are
 pub Begins-size : (bytes : List ℕ) (ts : List Token) (d : Declaration) (n : ℕ) → Begins bytes ts d n → (0 < n) × (n ≤ length ts)
 Begins-size bytes ts d n b = front_some bytes ts d n (IsFront-begins bytes ts d n b)
+
+within_at : (size : ℕ) (ts : List Token) (place : ℕ) (t : Token) → All (IsWithin size) ts → place < length ts → t ≡ token_at ts place → IsWithin size t
+within_at size ts place t within lt is = subst (IsWithin size) (sym is) (within place _ lt)
+
+IsFront-within : (size : ℕ) (bytes : List ℕ) (ts : List Token) (d : Declaration) (n : ℕ) → All (IsWithin size) ts → IsFront bytes ts d n → IsDeclarationWithin size d
+IsFront-within size bytes ts d n within (family_front x _ _ long _ name) = within_at size ts 1 x within (omega (arith, long)) name
+IsFront-within size bytes ts d n within (constant_front x bs l _ is) =
+    let type = front_within size bytes (drop 3 ts) bs l is.rest (All-drop (IsWithin size) 3 ts within) is.type in
+    (within_at size ts 1 x within (omega (arith, is.long)) is.name_is, type.0, type.1)
+IsFront-within size bytes ts d n within (theorem_front x t _ _ long _ name target) =
+    (within_at size ts 1 x within (omega (arith, long)) name, within_at size ts 3 t within (omega (arith, long)) target)
+IsFront-within size bytes ts d n within (rule_front x p s _ _ long _ name number subject) =
+    (within_at size ts 1 x within (omega (arith, long)) name, within_at size ts 4 p within (omega (arith, long)) number, within_at size ts 6 s within (omega (arith, long)) subject)
+
+-- the tokens of a declaration are among those that it begins
+pub Begins-within : (size : ℕ) (bytes : List ℕ) (ts : List Token) (d : Declaration) (n : ℕ) → All (IsWithin size) ts → Begins bytes ts d n → IsDeclarationWithin size d
+Begins-within size bytes ts d n within b = IsFront-within size bytes ts d n within (IsFront-begins bytes ts d n b)

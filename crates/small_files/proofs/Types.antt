@@ -1,9 +1,10 @@
 -- Types at the front of tokens, one binder after another.
-use Rattle.std.proofs.Common.{◌≡◌, ℕ, ◌+◌, ◌<◌, ◌≤◌, List, [], ◌∷◌, ◌++◌, length, drop, get_or, refl, sym, subst, ap, ◌∙◌, arith, ◌⊎◌, inl, inr, append_assoc, length-append, Bool, false, true}
-use Rattle.std.specs.Prelude.{IsTrue, ◌↔◌}
-use Rattle.lex_text.specs.declared.mark.Mark.{Mark}
-use Rattle.lex_text.specs.declared.mark.Mark.TheVariants.{Word, Dot, Arrow}
+use Rattle.std.proofs.Common.{◌≡◌, ℕ, ◌<◌, ◌≤◌, List, [], ◌∷◌, ◌++◌, length, drop, refl, sym, subst, ap, ◌∙◌, arith, inl, inr, length-append, false, true}
+use Rattle.std.specs.Prelude.{IsTrue, ◌↔◌, All}
+use Rattle.std.proofs.lemmas.List.Elements.{All-nil, All-cons, All-head, All-tail}
+use Rattle.lex_text.specs.declared.mark.Mark.TheVariants.{Dot, Arrow}
 use Rattle.lex_text.specs.declared.token.Token.{Token}
+use Rattle.lex_text.specs.Tokens.{IsWithin}
 use Rattle.small_files.specs.Grammar.{IsName, IsSimpleType, conclusion, binder}
 use Rattle.small_files.specs.TypeFronts.{IsTypeFront}
 use Rattle.small_files.specs.Fronts.{token_at}
@@ -94,6 +95,19 @@ one_front bytes (n ∷ s ∷ ts) bs cs l k r q f g =
             let same = one_front bytes ts a.1 b.1 l k r q a.3 b.3 in
             record { binders = a.2 ∙ ap (λ (x : List Token). n ∷ x) same.binders ∙ sym b.2; last = same.last; rest = same.rest }
       ]
+    ]
+
+-- the names of a type are among the tokens that it is at the front of
+pub front_within : (size : ℕ) (bytes : List ℕ) (ts bs : List Token) (l : Token) (r : List Token) → All (IsWithin size) ts → IsTypeFront bytes ts bs l r → All (IsWithin size) bs × IsWithin size l
+front_within size bytes [] bs l r within f = absurd f
+front_within size bytes (n ∷ []) bs l r within f = absurd f
+front_within size bytes (n ∷ s ∷ ts) bs l r within f =
+    let name : IsWithin size n = All-head (IsWithin size) n (s ∷ ts) within in
+    elim f.1 [
+      | inl end ↦ (subst (All (IsWithin size)) (sym end.1) (All-nil (IsWithin size)), subst (IsWithin size) (sym end.2) name)
+      | inr more ↦
+          let rest = front_within size bytes ts more.1 l r (All-tail (IsWithin size) s ts (All-tail (IsWithin size) n (s ∷ ts) within)) more.3 in
+          (subst (All (IsWithin size)) (sym more.2) (All-cons (IsWithin size) n more.1 name rest.0), rest.1)
     ]
 
 -- what is left after a type is less than there was

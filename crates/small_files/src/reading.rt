@@ -17,8 +17,9 @@ use std::alloc::Global;
 const MOST_BYTES: usize = 4_194_304;
 
 /// Reads a small file: at most 4,194,304 bytes of ASCII that are declarations of families of kind
-/// `type`, constants with arrows between families, theorems of one family, and unsafe apply rules. `Unsupported` comes
-/// exactly where the bytes are no small file.
+/// `type`, constants with arrows between families, theorems of one family, and unsafe apply rules.
+/// A type has at most 1,000 binders. `Unsupported` comes exactly where the bytes are no small file.
+/// The time is linear in the number of bytes.
 pub fn small_file(alloc: Global, bytes: &[u8]) -> Result<SmallFile, SmallFault>
     ensures read { IfOk result (λ file. IsSmallFile bytes.now file) }
     ensures numbered { IfOk result IsNumbered }
@@ -61,7 +62,8 @@ fn declared(alloc: Global, bytes: &[u8], tokens: &[Token]) -> Result<SmallFile, 
     let mut draft = Draft::new(alloc)?;
     let mut rest = tokens;
     while !rest.is_empty() {
-        let Some((declaration, count)) = declaration_at(alloc, bytes, rest)? else {
+        let found = declaration_at(alloc, bytes, rest)?;
+        let Some((declaration, count)) = found else {
             return Err(SmallFault::Unsupported);
         };
         draft = match declare(alloc, draft, bytes, declaration) {

@@ -1,5 +1,4 @@
-use Rattle.std.proofs.Common.{◌≤◌, ◌<◌, length, drop, refl, arith, subst, sym, ap}
-use Rattle.std.proofs.lemmas.List.{length-drop}
+use Rattle.std.proofs.Common.{◌<◌, length, refl, arith, subst, sym}
 use Rattle.small_files.specs.TypeFronts.{IsTypeFront}
 use Rattle.small_files.proofs.Types.{front_size}
 use Rattle.small_files.proofs.Fronts.{constant_begins}

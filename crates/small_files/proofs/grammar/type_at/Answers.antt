@@ -1,4 +1,4 @@
-use Rattle.std.proofs.Common.{◌≡◌, ◌<◌, ◌∷◌, ◌++◌, [], length, drop, refl, sym, ◌∙◌, subst, ap, arith, append_assoc, append-nil, rules}
+use Rattle.std.proofs.Common.{◌≡◌, ◌<◌, ◌∷◌, ◌++◌, [], length, refl, sym, ◌∙◌, subst, ap, arith, append_assoc, append-nil, rules}
 use Rattle.std.specs.Prelude.{List}
 use Rattle.lex_text.specs.declared.token.Token.{Token}
 use Rattle.small_files.specs.TypeFronts.{IsTypeFront}
