@@ -9,8 +9,8 @@ ghost use Rattle.small_search.specs.Progress.{IsPrepared, IsDraft, IsPassedWhole
 use crate::closing::Closing;
 use crate::constants::constant_at;
 use crate::waiting::Waiting;
-use small_files::SmallFile;
 use lf_terms::NoMemory;
+use small_files::SmallFile;
 use std::alloc::Global;
 
 /// The families that are closed so far, and for each constant how many of its first binders are

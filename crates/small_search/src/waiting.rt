@@ -5,8 +5,8 @@ ghost use Rattle.small_files.specs.SmallFiles.{IsNumbered};
 ghost use Rattle.small_search.specs.Waits.{IsWaiting, IsComplete, KeepsWaiting, WaitsForBinders};
 
 use crate::constants::constant_at;
-use small_files::SmallFile;
 use lf_terms::NoMemory;
+use small_files::SmallFile;
 use std::alloc::Global;
 
 /// A constant that waits for a family, and the place of the next link of the same family.

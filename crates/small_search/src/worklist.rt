@@ -10,8 +10,8 @@ use crate::draft::Draft;
 use crate::rules_of::rules_of;
 use crate::table::Table;
 use crate::waiting::{Waiting, waiting_of};
-use small_files::SmallFile;
 use lf_terms::NoMemory;
+use small_files::SmallFile;
 use std::alloc::Global;
 
 /// Closes what follows from the closed families: each wakes those that wait for it.
