@@ -1,8 +1,8 @@
 -- From what was written to the answer of a status.
 use Rattle.std.proofs.Common.{◌≡◌, ℕ, List, [], ◌∷◌, ◌++◌, length, refl, sym, subst, ap, ◌∙◌, arith, Some, None, Option, ◌⊎◌, inl, inr, append-nil, length-append, false, true}
 use Rattle.std.specs.Prelude.{IsTrue, ◌↔◌}
-use Rattle.file_syntax.specs.declared.small.SmallFile.{SmallFile}
-use Rattle.file_syntax.specs.FlatFile.{IsFlatFile}
+use Rattle.small_files.specs.declared.small.SmallFile.{SmallFile}
+use Rattle.small_files.specs.FlatFile.{IsFlatFile}
 use Rattle.aesop_session.specs.declared.status.Status.{Status}
 use Rattle.aesop_session.specs.declared.status.Status.TheVariants.{AllProved, SomeStuck, SomeSpent, FileRefused, Usage, TooLong, ReadFault, WriteFault, NoMemory, AnswersRefused}
 use Rattle.aesop_session.specs.Commands.{prove_words}

@@ -2,10 +2,10 @@
 use Rattle.std.proofs.Common.{◌≡◌, ℕ, ◌-◌, List, [], ◌++◌, refl, sym, subst, ap, ◌∙◌, arith, Some, None, get_or, append_assoc, append-nil}
 use Rattle.std.specs.Prelude.{slice_get, All}
 use Rattle.std.proofs.lemmas.Option.{slice_get_within, get_or_from_slice_get}
-use Rattle.file_syntax.specs.declared.small.SmallFile.{SmallFile}
-use Rattle.file_syntax.specs.declared.small.SmallConst.{SmallConst}
-use Rattle.file_syntax.specs.declared.small.SmallTheorem.{SmallTheorem}
-use Rattle.file_syntax.specs.FlatFile.{IsFlat}
+use Rattle.small_files.specs.declared.small.SmallFile.{SmallFile}
+use Rattle.small_files.specs.declared.small.SmallConst.{SmallConst}
+use Rattle.small_files.specs.declared.small.SmallTheorem.{SmallTheorem}
+use Rattle.small_files.specs.FlatFile.{IsFlat}
 use Rattle.small_search.specs.declared.closing.Closing.{Closing}
 use Rattle.small_search.specs.Closings.{Closings, closing_of, IsClosing, IsTable}
 use Rattle.small_search.specs.Derivations.{IsChoice, closed, step}

@@ -4,9 +4,9 @@ use Rattle.std.specs.Io.KnownBytes.{Appends}
 use Rattle.std.proofs.KnownBytes.{Appends-nil, Appends-trans}
 use Rattle.std.proofs.lemmas.List.{take_more, take-append-drop}
 use Rattle.run_io.specs.Moves.{AppendsFront}
-use Rattle.file_syntax.specs.declared.small.SmallFile.{SmallFile}
-use Rattle.file_syntax.specs.declared.small.SmallTheorem.{SmallTheorem}
-use Rattle.file_syntax.specs.FlatFile.{IsFlat}
+use Rattle.small_files.specs.declared.small.SmallFile.{SmallFile}
+use Rattle.small_files.specs.declared.small.SmallTheorem.{SmallTheorem}
+use Rattle.small_files.specs.FlatFile.{IsFlat}
 use Rattle.aesop_session.specs.declared.status.Status.{Status}
 use Rattle.aesop_session.specs.declared.status.Status.TheVariants.{AllProved, SomeStuck}
 use Rattle.small_search.specs.declared.closing.Closing.{Closing}

@@ -2,8 +2,8 @@
 use Rattle.std.specs.Prelude.{◌≡◌, ℕ, ◌≤◌, ◌⊎◌, length, List, codes, Option}
 use Rattle.std.specs.Io.KnownBytes.{Keeps, Appends}
 use Rattle.run_io.specs.Moves.{TakesAll, TakesAtMost, TakesMoreThan, AppendsFront}
-use Rattle.file_syntax.specs.declared.small.SmallFile.{SmallFile}
-use Rattle.file_syntax.specs.FlatFile.{IsFlatFile, IsNoFlatFile}
+use Rattle.small_files.specs.declared.small.SmallFile.{SmallFile}
+use Rattle.small_files.specs.FlatFile.{IsFlatFile, IsNoFlatFile}
 use Rattle.aesop_session.specs.declared.status.Status.{Status}
 use Rattle.aesop_session.specs.declared.status.Status.TheVariants.{AllProved, SomeStuck, FileRefused, Usage, ReadFault, WriteFault, NoMemory}
 use Rattle.aesop_session.specs.Commands.{IsProve}

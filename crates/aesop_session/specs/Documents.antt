@@ -2,10 +2,10 @@
 use Rattle.std.specs.Prelude.{◌≡◌, ℕ, List, [], ◌∷◌, ◌++◌, codes, Bool, true, false, Option}
 use Rattle.std.specs.Io.KnownBytes.{Appends}
 use Rattle.run_io.specs.Moves.{AppendsFront}
-use Rattle.file_syntax.specs.declared.small.SmallFile.{SmallFile}
-use Rattle.file_syntax.specs.declared.small.SmallConst.{SmallConst}
-use Rattle.file_syntax.specs.declared.small.SmallRule.{SmallRule}
-use Rattle.file_syntax.specs.declared.small.SmallTheorem.{SmallTheorem}
+use Rattle.small_files.specs.declared.small.SmallFile.{SmallFile}
+use Rattle.small_files.specs.declared.small.SmallConst.{SmallConst}
+use Rattle.small_files.specs.declared.small.SmallRule.{SmallRule}
+use Rattle.small_files.specs.declared.small.SmallTheorem.{SmallTheorem}
 use Rattle.aesop_session.specs.declared.status.Status.{Status}
 use Rattle.aesop_session.specs.declared.status.Status.TheVariants.{AllProved, SomeStuck}
 use Rattle.small_search.specs.Derivations.{IsRule, Derivation, HasNoDerivation}

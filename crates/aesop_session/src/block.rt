@@ -1,11 +1,11 @@
 //! The text of a theorem's block.
 
 ghost use Rattle.std.specs.Prelude.{◌≡◌, ◌++◌, IfOk, OnOk};
-ghost use Rattle.file_syntax.specs.FlatFile.{IsFlat};
+ghost use Rattle.small_files.specs.FlatFile.{IsFlat};
 ghost use Rattle.small_search.specs.Closings.{IsTable};
 ghost use Rattle.aesop_session.specs.Documents.{proved_text, stuck_text, AddsBlock};
 
-use file_syntax::{SmallFile, SmallTheorem};
+use small_files::{SmallFile, SmallTheorem};
 use lf_terms::{Bytes, NoMemory};
 use small_search::Table;
 

@@ -4,13 +4,13 @@ ghost use Rattle.std.specs.Prelude.{◌≡◌, ◌≤◌, ◌⊎◌, IfOk, OnOk,
 ghost use Rattle.std.specs.Io.KnownBytes.{Appends};
 ghost use Rattle.run_io.specs.Causes.{Rose};
 ghost use Rattle.run_io.specs.Moves.{AppendsFront};
-ghost use Rattle.file_syntax.specs.FlatFile.{IsFlat};
+ghost use Rattle.small_files.specs.FlatFile.{IsFlat};
 ghost use Rattle.small_search.specs.Closings.{IsTable};
 ghost use Rattle.aesop_session.specs.Documents.{WritesBlock, WritesBlockFront, WritesBlocks, WritesBlocksFront, WritesDocument, WritesDocumentFront};
 
 use crate::block::append_block;
 use crate::status::Status;
-use file_syntax::{SmallFile, SmallTheorem};
+use small_files::{SmallFile, SmallTheorem};
 use lf_terms::{Bytes, NoMemory};
 use run_io::{Sink, WriteEnd, write_piece};
 use small_search::Table;

@@ -3,10 +3,10 @@
 ghost use Rattle.std.specs.Prelude.{◌≡◌, ◌≤◌, IfOk, IsErrOf};
 ghost use Rattle.run_io.specs.Causes.{Rose};
 ghost use Rattle.run_io.specs.Moves.{TakesAtMost};
-ghost use Rattle.file_syntax.specs.FlatFile.{IsFlat};
+ghost use Rattle.small_files.specs.FlatFile.{IsFlat};
 ghost use Rattle.aesop_session.specs.Answers.{TakesFile, RefusesFile, most_bytes};
 
-use file_syntax::{SmallFault, SmallFile, small_file};
+use small_files::{SmallFault, SmallFile, small_file};
 use run_io::{ReadEnd, Source, read_all};
 use std::alloc::Global;
 

@@ -2,8 +2,8 @@
 
 ghost use Rattle.std.specs.Prelude.{◌≡◌, ◌≤◌, ◌⊎◌, Option, Some, List, ℕ};
 ghost use Rattle.run_io.specs.Causes.{Rose};
-ghost use Rattle.file_syntax.specs.declared.small.SmallFile.{SmallFile};
-ghost use Rattle.file_syntax.specs.FlatFile.{IsFlat, IsFlatFile};
+ghost use Rattle.small_files.specs.declared.small.SmallFile.{SmallFile};
+ghost use Rattle.small_files.specs.FlatFile.{IsFlat, IsFlatFile};
 ghost use Rattle.aesop_session.specs.Commands.{IsProve, prove_words};
 ghost use Rattle.aesop_session.specs.Answers.{Answered, IsAnswer, TakesFile, RefusesFile, Served};
 ghost use Rattle.aesop_session.specs.declared.status.Status.{Status};
@@ -12,7 +12,7 @@ use crate::command::is_prove;
 use crate::document::{Stop, write_document, write_text};
 use crate::input::{NoFile, read_file};
 use crate::status::Status;
-use file_syntax::SmallFile;
+use small_files::SmallFile;
 use lf_terms::Words;
 use run_io::{Sink, Source};
 use small_search::search;

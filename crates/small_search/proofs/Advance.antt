@@ -1,7 +1,7 @@
 -- A draft in which one more family is closed by a rule for a constant whose binders are closed.
 use Rattle.std.proofs.Common.{◌≡◌, ℕ, ◌<◌, List, length, Option, Some, None, IsSome, slice_get, sym, subst, arith, inl, get_or-set_same}
-use Rattle.file_syntax.specs.declared.small.SmallFile.{SmallFile}
-use Rattle.file_syntax.specs.declared.small.SmallConst.{SmallConst}
+use Rattle.small_files.specs.declared.small.SmallFile.{SmallFile}
+use Rattle.small_files.specs.declared.small.SmallConst.{SmallConst}
 use Rattle.small_search.specs.declared.draft.Draft.{Draft}
 use Rattle.small_search.specs.Closings.{closing_of, IsClosings}
 use Rattle.small_search.specs.RulesOf.{rule_of}

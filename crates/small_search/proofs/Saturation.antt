@@ -1,7 +1,7 @@
 -- Where no constant with a rule waits for a closed family, an open family has no derivation.
 use Rattle.std.proofs.Common.{◌≡◌, ℕ, zero, suc, ◌<◌, ◌≤◌, List, [], ◌∷◌, ◌++◌, length, Option, Some, None, IsSome, slice_index, sym, subst, ◌∙◌, arith, inl, inr}
 use Rattle.std.proofs.lemmas.Option.{slice_get_within, MatchOption-at_some}
-use Rattle.file_syntax.specs.declared.small.SmallFile.{SmallFile}
+use Rattle.small_files.specs.declared.small.SmallFile.{SmallFile}
 use Rattle.small_search.specs.declared.closing.Closing.{Closing}
 use Rattle.small_search.specs.Derivations.{IsChoice, Derivation, closed, step, HasNoDerivation}
 use Rattle.small_search.specs.Closings.{closing_of, IsClosings}

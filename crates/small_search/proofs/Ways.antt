@@ -3,7 +3,7 @@ use Rattle.std.proofs.Common.{◌≡◌, ◌≢◌, ℕ, ◌+◌, ◌<◌, ◌�
 use Rattle.std.proofs.lemmas.Bool.{cases_eq}
 use Rattle.std.proofs.lemmas.List.{length_push, length-set}
 use Rattle.std.proofs.lemmas.Option.{IfSome_then}
-use Rattle.file_syntax.specs.declared.small.SmallFile.{SmallFile}
+use Rattle.small_files.specs.declared.small.SmallFile.{SmallFile}
 use Rattle.small_search.specs.declared.waiting.Link.{Link}
 use Rattle.small_search.specs.declared.waiting.Waiting.{Waiting}
 use Rattle.small_search.specs.Waits.{IsAlong, here, later, WaitsFor, IsLink, IsWaiting, KeepsWaiting}

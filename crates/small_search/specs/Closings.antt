@@ -1,8 +1,8 @@
 -- Tables of what closes the families of a small file: for each family a rule, or that there is none.
 use Rattle.std.specs.Prelude.{◌≡◌, ℕ, ◌<◌, List, [], ◌∷◌, length, Option, Some, None, All, slice_index, slice_index_or, is_some, count_by}
-use Rattle.file_syntax.specs.declared.small.SmallFile.{SmallFile}
-use Rattle.file_syntax.specs.declared.small.SmallConst.{SmallConst}
-use Rattle.file_syntax.specs.declared.small.SmallRule.{SmallRule}
+use Rattle.small_files.specs.declared.small.SmallFile.{SmallFile}
+use Rattle.small_files.specs.declared.small.SmallConst.{SmallConst}
+use Rattle.small_files.specs.declared.small.SmallRule.{SmallRule}
 use Rattle.small_search.specs.declared.closing.Closing.{Closing}
 use Rattle.small_search.specs.Derivations.{IsRule, IsChoice, HasNoDerivation}
 use Rattle.small_search.specs.Parts.{HasDerivation}

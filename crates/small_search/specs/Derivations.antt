@@ -1,8 +1,8 @@
 -- Derivations over small files: lists of choices that close a list of goals.
 use Rattle.std.specs.Prelude.{◌≡◌, ℕ, ◌+◌, List, [], ◌∷◌, ◌++◌, Some, slice_get}
-use Rattle.file_syntax.specs.declared.small.SmallFile.{SmallFile}
-use Rattle.file_syntax.specs.declared.small.SmallConst.{SmallConst}
-use Rattle.file_syntax.specs.declared.small.SmallRule.{SmallRule}
+use Rattle.small_files.specs.declared.small.SmallFile.{SmallFile}
+use Rattle.small_files.specs.declared.small.SmallConst.{SmallConst}
+use Rattle.small_files.specs.declared.small.SmallRule.{SmallRule}
 
 -- The rule of this number, from 2 in the order of declaration, and its constant.
 pub record IsRule (file : SmallFile) (number : ℕ) (rule : SmallRule) (constant : SmallConst) : Type 0 where

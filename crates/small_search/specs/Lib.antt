@@ -1,6 +1,5 @@
 pub mod Derivations
 pub mod Parts
-pub mod Numbered
 pub mod Closings
 pub mod RulesOf
 pub mod Waits

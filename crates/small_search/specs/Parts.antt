@@ -1,6 +1,6 @@
 -- Derivations of parts of a list of goals.
 use Rattle.std.specs.Prelude.{◌≡◌, ℕ, List, ◌++◌}
-use Rattle.file_syntax.specs.declared.small.SmallFile.{SmallFile}
+use Rattle.small_files.specs.declared.small.SmallFile.{SmallFile}
 use Rattle.small_search.specs.Derivations.{Derivation}
 
 -- Some choices close the goals.

@@ -1,10 +1,10 @@
 -- How far a search has come.
 use Rattle.std.specs.Prelude.{◌≡◌, ℕ, ◌<◌, ◌≤◌, ◌⊎◌, List, length, Option, Some, None, IsSome, IfSome, slice_get, slice_index, slice_set, [], ◌∷◌, ◌++◌}
-use Rattle.file_syntax.specs.declared.small.SmallFile.{SmallFile}
-use Rattle.file_syntax.specs.declared.small.SmallConst.{SmallConst}
+use Rattle.small_files.specs.declared.small.SmallFile.{SmallFile}
+use Rattle.small_files.specs.declared.small.SmallConst.{SmallConst}
 use Rattle.small_search.specs.declared.closing.Closing.{Closing}
 use Rattle.small_search.specs.declared.draft.Draft.{Draft}
-use Rattle.small_search.specs.Numbered.{IsNumbered}
+use Rattle.small_files.specs.SmallFiles.{IsNumbered}
 use Rattle.small_search.specs.Closings.{closing_of, IsClosings}
 use Rattle.small_search.specs.RulesOf.{rule_of, IsRulesOf}
 

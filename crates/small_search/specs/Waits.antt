@@ -1,7 +1,7 @@
 -- Which constants wait for a family: linked lists over one list of links.
 use Rattle.std.specs.Prelude.{◌≡◌, ℕ, ◌<◌, List, length, Option, Some, None, IfSome, slice_get, slice_index, slice_index_or}
-use Rattle.file_syntax.specs.declared.small.SmallFile.{SmallFile}
-use Rattle.file_syntax.specs.declared.small.SmallConst.{SmallConst}
+use Rattle.small_files.specs.declared.small.SmallFile.{SmallFile}
+use Rattle.small_files.specs.declared.small.SmallConst.{SmallConst}
 use Rattle.small_search.specs.declared.waiting.Link.{Link}
 use Rattle.small_search.specs.declared.waiting.Waiting.{Waiting}
 

@@ -2,7 +2,7 @@
 
 ghost use Rattle.std.specs.Prelude.{◌≡◌, ◌<◌, length, Some, slice_get};
 
-use file_syntax::{SmallConst, SmallFile};
+use small_files::{SmallConst, SmallFile};
 
 /// The constant of a number.
 pub fn constant_at(file: &SmallFile, number: u32) -> &SmallConst

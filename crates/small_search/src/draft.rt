@@ -1,7 +1,7 @@
 //! The table while it is made.
 
 ghost use Rattle.std.specs.Prelude.{◌≡◌, ◌+◌, ◌++◌, ◌∷◌, [], ◌<◌, ◌≤◌, ℕ, false, length, Some, None, All, IfOk, OnOk, IsTrue, IsSome, slice_set, slice_index};
-ghost use Rattle.small_search.specs.Numbered.{IsNumbered};
+ghost use Rattle.small_files.specs.SmallFiles.{IsNumbered};
 ghost use Rattle.small_search.specs.Closings.{closing_of};
 ghost use Rattle.small_search.specs.Waits.{IsWaiting, IsComplete};
 ghost use Rattle.small_search.specs.Progress.{IsPrepared, IsDraft, IsPassedWhole, IsStopped, IsAdvanced, AllSettled, Closes, ClosesBy};
@@ -9,8 +9,8 @@ ghost use Rattle.small_search.specs.Progress.{IsPrepared, IsDraft, IsPassedWhole
 use crate::closing::Closing;
 use crate::constants::constant_at;
 use crate::waiting::Waiting;
-use file_syntax::SmallFile;
 use lf_terms::NoMemory;
+use small_files::SmallFile;
 use std::alloc::Global;
 
 /// The families that are closed so far, and for each constant how many of its first binders are

@@ -1,7 +1,7 @@
 //! Laws of derivations over small files. A call does nothing: its contract is the law.
 
 ghost use Rattle.std.specs.Prelude.{◌↔◌, ℕ, List, [], ◌∷◌, ◌++◌, All, Contains, IsSome};
-ghost use Rattle.file_syntax.specs.declared.small.SmallFile.{SmallFile};
+ghost use Rattle.small_files.specs.declared.small.SmallFile.{SmallFile};
 ghost use Rattle.small_search.specs.Derivations.{Derivation};
 ghost use Rattle.small_search.specs.Parts.{HasDerivation, IsSplit};
 ghost use Rattle.small_search.specs.Closings.{Closings, closing_of, IsTable};

@@ -1,6 +1,6 @@
 //! The search over small files: for each family a rule that closes it, or that it has no derivation.
 //! It is linear in the size of the file: each constant waits for its binders and is woken by them.
-//! Below stands `file_syntax` with the small files. Proved: `search` closes a family exactly where it
+//! Below stands `small_files` with the small files. Proved: `search` closes a family exactly where it
 //! has a derivation, each after the families that its rule leaves.
 #![tactic(auto)]
 
@@ -8,14 +8,12 @@ pub mod closing;
 mod constants;
 mod draft;
 pub mod laws;
-pub mod numbered;
 mod rules_of;
 pub mod table;
 mod waiting;
 mod worklist;
 
 pub use closing::Closing;
-pub use numbered::is_numbered;
 pub use table::Table;
 pub use worklist::search;
 

@@ -3,8 +3,8 @@
 ghost use Rattle.std.specs.Prelude.{◌≡◌, ◌<◌, length, All, IfOk};
 ghost use Rattle.small_search.specs.RulesOf.{IsRulesOf};
 
-use file_syntax::SmallRule;
 use lf_terms::NoMemory;
+use small_files::SmallRule;
 use std::alloc::Global;
 
 /// For each of so many constants the number of the first rule for it, from 2 in the order of

@@ -5,7 +5,7 @@ ghost use Rattle.small_search.specs.Closings.{closing_of, IsClosedBy, IsTable};
 
 use crate::closing::Closing;
 use crate::draft::Draft;
-use file_syntax::SmallFile;
+use small_files::SmallFile;
 use std::marker::Model;
 
 /// For each family of a small file the rule that closes it, if one does. A contract sees the closings

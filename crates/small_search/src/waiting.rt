@@ -1,12 +1,12 @@
 //! Which constants wait for a family.
 
 ghost use Rattle.std.specs.Prelude.{◌≡◌, ◌++◌, ◌∷◌, [], ◌<◌, length, Some, None, IfOk, OnOk, slice_set, slice_index_or};
-ghost use Rattle.small_search.specs.Numbered.{IsNumbered};
+ghost use Rattle.small_files.specs.SmallFiles.{IsNumbered};
 ghost use Rattle.small_search.specs.Waits.{IsWaiting, IsComplete, KeepsWaiting, WaitsForBinders};
 
 use crate::constants::constant_at;
-use file_syntax::SmallFile;
 use lf_terms::NoMemory;
+use small_files::SmallFile;
 use std::alloc::Global;
 
 /// A constant that waits for a family, and the place of the next link of the same family.

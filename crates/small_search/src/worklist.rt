@@ -1,7 +1,7 @@
 //! The search.
 
 ghost use Rattle.std.specs.Prelude.{◌≡◌, length, IfOk, OnOk};
-ghost use Rattle.small_search.specs.Numbered.{IsNumbered};
+ghost use Rattle.small_files.specs.SmallFiles.{IsNumbered};
 ghost use Rattle.small_search.specs.Closings.{IsTable};
 ghost use Rattle.small_search.specs.Waits.{IsWaiting, IsComplete};
 ghost use Rattle.small_search.specs.Progress.{IsPrepared, IsDraft, AllSettled};
@@ -10,8 +10,8 @@ use crate::draft::Draft;
 use crate::rules_of::rules_of;
 use crate::table::Table;
 use crate::waiting::{Waiting, waiting_of};
-use file_syntax::SmallFile;
 use lf_terms::NoMemory;
+use small_files::SmallFile;
 use std::alloc::Global;
 
 /// Closes what follows from the closed families: each wakes those that wait for it.

@@ -1,8 +1,8 @@
 use Rattle.std.proofs.Common.{◌≡◌, ◌-◌, ◌<◌, ◌++◌, length, Some, arith, ap, sym, ◌∙◌}
 use Rattle.std.specs.Prelude.{slice_get}
 use Rattle.std.proofs.lemmas.Option.{slice_get_within}
-use Rattle.file_syntax.specs.declared.small.SmallRule.{SmallRule}
-use Rattle.file_syntax.specs.declared.small.SmallConst.{SmallConst}
+use Rattle.small_files.specs.declared.small.SmallRule.{SmallRule}
+use Rattle.small_files.specs.declared.small.SmallConst.{SmallConst}
 use Rattle.aesop_session.specs.Documents.{proved_text}
 use Rattle.aesop_session.proofs.Blocks.{choice_of, rule_at, read_at, proved_block, proved_text-same}
 use Rattle.aesop_session.proofs.block.append_block.Goals as goal

@@ -1,5 +1,5 @@
 use Rattle.std.proofs.Common.{subst, inl}
-use Rattle.file_syntax.specs.FlatFile.{IsNoFlatFile}
+use Rattle.small_files.specs.FlatFile.{IsNoFlatFile}
 use Rattle.aesop_session.proofs.input.read_file.Goals as goal
 
 pub returns-in-Err-Unsupported-clause-refused : goal.returns-in-Err-Unsupported-clause-refused

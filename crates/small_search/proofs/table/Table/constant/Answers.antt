@@ -1,5 +1,5 @@
 use Rattle.std.proofs.Common.{◌-◌, ◌<◌, List, length, slice_index_or, subst, sym}
-use Rattle.file_syntax.specs.declared.small.SmallRule.{SmallRule}
+use Rattle.small_files.specs.declared.small.SmallRule.{SmallRule}
 use Rattle.small_search.specs.Closings.{IsClosedBy}
 use Rattle.small_search.proofs.Found.{IsFound, IsFound-closed}
 use Rattle.small_search.proofs.table.Table.constant.Goals as goal

@@ -1,0 +1,15 @@
+use Rattle.std.proofs.Common.{arith, rules}
+use Rattle.std.proofs.lemmas.List.{length-map}
+use Rattle.lex_text.specs.Tokens.{text_of}
+use Rattle.small_files.proofs.draft.Draft.with_constant.Goals as goal
+
+pub returns-clause-ok : goal.returns-clause-ok
+returns-clause-ok c = record {
+  is_new = search rules;
+  few = omega (arith, length-map c.args.binders.now (text_of c.args.bytes.now));
+  binders = c.in-Ok.binders;
+  binders_known = c.in-Ok.ensures.known;
+  number = c.in-Some.family;
+  known = search rules;
+  after = search rules;
+}
