@@ -77,7 +77,7 @@ module _ (file : SmallFile) (closings : List (Option Closing)) where
       (subst (λ (ks : List ℕ). HasTerms file (declared.binders ++ goals) ks (joined args others)) (sym parts) both)
       refl (HasTerms-count file declared.binders below args first))
 
-  is_rule_number : (rule : ℕ) (by : SmallRule) (declared : SmallConst) → IsRule file rule by declared → IsRuleNumber file rule
+  pub is_rule_number : (rule : ℕ) (by : SmallRule) (declared : SmallConst) → IsRule file rule by declared → IsRuleNumber file rule
   is_rule_number rule by declared is = record {
     two = omega (arith, is.number_is);
     within = omega (arith, is.number_is, slice_get_within file.rules is.place by is.rule_is);
