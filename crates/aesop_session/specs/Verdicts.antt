@@ -1,5 +1,5 @@
 -- What is answered for one theorem of a small file.
-use Rattle.std.specs.Prelude.{◌≡◌, ℕ, List, [], ◌∷◌, Some, slice_get}
+use Rattle.std.specs.Prelude.{◌≡◌, ℕ, [], ◌∷◌, Some, slice_get}
 use Rattle.lf_definitions.specs.Syntax.{no_args, arg}
 use Rattle.lf_terms.specs.Terms.{term_of}
 use Rattle.small_files.specs.declared.small.SmallFile.{SmallFile}

@@ -1,5 +1,5 @@
 -- Terms that are built from a table, one after another.
-use Rattle.std.proofs.Common.{◌≡◌, ℕ, List, [], ◌∷◌, ◌++◌, length, get_or, Option, Some, slice_get, slice_index, refl, sym, subst, ap, ◌∙◌, inl, inr}
+use Rattle.std.proofs.Common.{◌≡◌, ℕ, List, [], ◌∷◌, ◌++◌, length, get_or, Option, slice_index, refl, sym, subst, ap, ◌∙◌, inl, inr}
 use Rattle.std.proofs.lemmas.Option.{slice_get_read}
 use Rattle.lf_definitions.specs.Syntax.{LfTerm, at, constant, Spine, no_args, arg, joined}
 use Rattle.lf_terms.specs.declared.term.Term.{Term}

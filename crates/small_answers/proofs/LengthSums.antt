@@ -1,20 +1,20 @@
 -- Sums of lengths up to a bound.
-use Rattle.std.proofs.Common.{◌≡◌, ℕ, zero, suc, ◌+◌, ◌-◌, ◌<◌, ◌≤◌, List, [], ◌∷◌, ◌++◌, length, min, take, get_or, Option, Some, None, All, Bool, true, false, nat_lt, nat_eq, not, option_map, cond, slice_get, slice_index, refl, sym, subst, ap, ◌∙◌, arith, inl, inr, append-nil, length-append}
+use Rattle.std.proofs.Common.{◌≡◌, ℕ, suc, ◌+◌, List, [], ◌∷◌, ◌++◌, length, min, get_or, Option, Some, Bool, true, false, nat_lt, nat_eq, not, slice_get, slice_index, refl, sym, subst, ap, ◌∙◌, arith, inl, inr, append-nil, length-append}
 use Rattle.std.specs.Prelude.{codes, if◌then◌else◌}
 use Rattle.std.proofs.Math.Dec.{eqb-suc-zero}
 use Rattle.std.proofs.lemmas.List.Concat.{flat_map-append}
-use Rattle.lf_definitions.specs.Syntax.{LfTerm, at, constant, Spine, no_args, arg, joined}
+use Rattle.lf_definitions.specs.Syntax.{at, constant, no_args, arg, joined}
 use Rattle.small_files.specs.declared.small.SmallFile.{SmallFile}
 use Rattle.small_files.specs.declared.small.SmallConst.{SmallConst}
 use Rattle.small_files.specs.Names.{constant_names, rule_names}
 use Rattle.small_search.specs.declared.closing.Closing.{Closing}
-use Rattle.small_search.specs.Closings.{Closings, closing_of, IsClosings, IsClosedAt, IsClosedBelow}
+use Rattle.small_search.specs.Closings.{Closings}
 use Rattle.std.proofs.lemmas.List.{get_or_default}
 use Rattle.std.proofs.lemmas.Option.{slice_get_read}
 use Rattle.small_search.proofs.Lists.{slice_get-push_cases}
 use Rattle.small_answers.specs.declared.lengths.Length.{Length}
 use Rattle.small_answers.specs.Texts.{name_at, has_args, in_parentheses, term_text, args_text, step_line, script_text}
-use Rattle.small_answers.specs.Chosen.{IsChosen, gives_none, GivesTerms, GivesTerm}
+use Rattle.small_answers.specs.Chosen.{IsChosen, gives_none}
 use Rattle.small_answers.specs.Lengths.{most, IsSums, IsLength, AreLengths}
 use Rattle.small_answers.proofs.Ranks.{StandsAt}
 use Rattle.small_answers.proofs.TableTerms.{GivesTerms-join, GivesTerm-chosen}

@@ -1,5 +1,5 @@
 -- Where families stand in the order of a table.
-use Rattle.std.proofs.Common.{◌≡◌, ℕ, ◌<◌, List, length, get_or, All, Option, Some, option_map, slice_index, sym, subst, ap, ◌∙◌, arith}
+use Rattle.std.proofs.Common.{◌≡◌, ℕ, ◌<◌, List, length, get_or, All, Some, option_map, slice_index, sym, subst, ap, ◌∙◌, arith}
 use Rattle.small_files.specs.declared.small.SmallFile.{SmallFile}
 use Rattle.small_files.specs.declared.small.SmallConst.{SmallConst}
 use Rattle.small_search.specs.declared.closing.Closing.{Closing}

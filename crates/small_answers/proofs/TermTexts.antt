@@ -1,10 +1,10 @@
 -- The texts of terms that a table gives.
-use Rattle.std.proofs.Common.{◌≡◌, ℕ, zero, suc, ◌+◌, ◌-◌, ◌<◌, ◌≤◌, List, [], ◌∷◌, ◌++◌, length, map, take, get_or, Option, Some, None, IsSome, All, Bool, true, false, nat_lt, cond, slice_get, slice_index_or, refl, sym, subst, ap, ◌∙◌, arith, append_assoc, append-nil}
+use Rattle.std.proofs.Common.{◌≡◌, ℕ, suc, ◌+◌, ◌<◌, List, [], ◌∷◌, ◌++◌, length, take, get_or, Option, Some, None, IsSome, Bool, true, false, nat_lt, slice_get, refl, sym, subst, ap, ◌∙◌, arith, append_assoc, append-nil}
 use Rattle.std.specs.Prelude.{codes, if◌then◌else◌}
-use Rattle.std.proofs.lemmas.List.{take_more, get_or-map, flat_map_more}
+use Rattle.std.proofs.lemmas.List.{get_or-map, flat_map_more}
 use Rattle.std.proofs.lemmas.Bool.{lt-ltb}
 use Rattle.std.proofs.lemmas.Option.{slice_get_within, get_or_from_slice_get}
-use Rattle.lf_definitions.specs.Syntax.{LfTerm, at, constant, Spine, no_args, arg, args_count, joined}
+use Rattle.lf_definitions.specs.Syntax.{LfTerm, at, constant, Spine, no_args, arg, joined}
 use Rattle.small_files.specs.declared.small.SmallFile.{SmallFile}
 use Rattle.small_files.specs.declared.small.SmallConst.{SmallConst}
 use Rattle.small_files.specs.declared.small.SmallRule.{SmallRule}
@@ -13,7 +13,7 @@ use Rattle.small_search.specs.declared.closing.Closing.{Closing}
 use Rattle.small_search.specs.Closings.{closing_of, IsClosedBelow}
 use Rattle.small_search.proofs.Options.{IsSome-from_some}
 use Rattle.small_answers.specs.Texts.{name_at, has_args, in_parentheses, term_text, args_text, step_line, script_text}
-use Rattle.small_answers.specs.Chosen.{IsChosen, GivesTerms, gives_none, gives_one, GivesTerm, IsRuleNumber}
+use Rattle.small_answers.specs.Chosen.{IsChosen, GivesTerms, gives_none, gives_one, GivesTerm}
 use Rattle.small_answers.specs.Additions.{AddsNumbers, AddsArgs, AddsTerm}
 use Rattle.small_answers.proofs.TableTerms.{IsChosen-one, GivesTerms-join, GivesTerms-push, GivesTerm-chosen}
 

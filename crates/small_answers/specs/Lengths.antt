@@ -1,5 +1,5 @@
 -- The lengths of the texts that a table gives, up to a bound, and what is made once for a file.
-use Rattle.std.specs.Prelude.{◌≡◌, ℕ, List, [], ◌∷◌, length, min, Option, Some, slice_get, slice_index}
+use Rattle.std.specs.Prelude.{◌≡◌, ℕ, List, length, min, Option, Some, slice_get, slice_index}
 use Rattle.lf_definitions.specs.Syntax.{LfTerm, Spine, no_args, arg}
 use Rattle.small_files.specs.declared.small.SmallFile.{SmallFile}
 use Rattle.small_files.specs.Names.{constant_names, rule_names}

@@ -5,8 +5,8 @@ ghost use Rattle.small_files.specs.Names.{rule_names};
 ghost use Rattle.small_answers.specs.Chosen.{IsRuleNumber};
 ghost use Rattle.small_answers.specs.Texts.{name_at, script_text};
 
-use small_files::SmallFile;
 use lf_terms::{Bytes, NoMemory};
+use small_files::SmallFile;
 
 /// The name of the rule of a number.
 pub(crate) fn rule_name(file: &SmallFile, number: u32) -> &[u8]

@@ -38,11 +38,7 @@ fn length_of(file: &SmallFile, table: &Table, lengths: &[Length], family: u32) -
 
 /// The lengths for all closed families, in the order in which they were closed. Its time is linear in
 /// the size of the file.
-pub fn lengths_of(
-    alloc: Global,
-    file: &SmallFile,
-    table: &Table,
-) -> Result<Vec<Length>, NoMemory>
+pub fn lengths_of(alloc: Global, file: &SmallFile, table: &Table) -> Result<Vec<Length>, NoMemory>
     requires { IsTable file.now table.now }
     ensures size { IfOk result (λ lengths. length lengths.items ≡ length table.now.order) }
     ensures lengths { IfOk result (λ lengths. AreLengths file.now table.now lengths.items) }

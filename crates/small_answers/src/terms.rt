@@ -39,11 +39,7 @@ fn next_term(
 
 /// The terms of all closed families, in the order in which they were closed. Its time and its memory
 /// are linear in the size of the file, since the terms share what they have in common.
-pub fn terms_of(
-    alloc: Global,
-    file: &SmallFile,
-    table: &Table,
-) -> Result<Vec<Term>, NoMemory>
+pub fn terms_of(alloc: Global, file: &SmallFile, table: &Table) -> Result<Vec<Term>, NoMemory>
     requires { IsTable file.now table.now }
     ensures size { IfOk result (λ terms. length terms.items ≡ length table.now.order) }
     ensures terms { IfOk result (λ terms. AreTerms file.now table.now terms.items) }

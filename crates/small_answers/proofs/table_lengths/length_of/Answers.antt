@@ -1,4 +1,4 @@
-use Rattle.std.proofs.Common.{◌≡◌, ℕ, ◌+◌, List, length, min, get_or, take, ap, subst, sym, ◌∙◌, Bool, not, nat_lt}
+use Rattle.std.proofs.Common.{ℕ, ◌+◌, List, length, min, ap, subst, sym, ◌∙◌, Bool, not, nat_lt}
 use Rattle.std.specs.Prelude.{if◌then◌else◌}
 use Rattle.std.proofs.lemmas.List.{take_more, take_all}
 use Rattle.small_answers.specs.Lengths.{IsSums, most}

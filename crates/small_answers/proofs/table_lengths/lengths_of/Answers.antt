@@ -1,4 +1,4 @@
-use Rattle.std.proofs.Common.{◌≡◌, ℕ, List, ap, subst, sym, get_or, ◌∙◌, arith}
+use Rattle.std.proofs.Common.{ℕ, List, ap, subst, sym, get_or, ◌∙◌, arith}
 use Rattle.small_answers.specs.Lengths.{AreLengths}
 use Rattle.small_answers.proofs.LengthSums.{AreLengths-push}
 use Rattle.small_answers.proofs.table_lengths.lengths_of.Goals as goal

@@ -1,4 +1,4 @@
-use Rattle.std.proofs.Common.{◌≡◌, ℕ, List, [], ap, subst, sym, get_or, length, ◌∙◌}
+use Rattle.std.proofs.Common.{ℕ, List, [], subst, sym, length, ◌∙◌}
 use Rattle.std.proofs.lemmas.List.{take_more, take_all}
 use Rattle.lf_terms.specs.declared.term.Term.{Term}
 use Rattle.lf_terms.specs.Terms.{spine_of}

@@ -1,4 +1,4 @@
-use Rattle.std.proofs.Common.{◌≡◌, ℕ, List, ap, subst, sym, get_or, ◌∙◌, arith}
+use Rattle.std.proofs.Common.{ℕ, List, ap, subst, sym, get_or, ◌∙◌, arith}
 use Rattle.small_answers.specs.Copies.{AreTerms}
 use Rattle.small_answers.proofs.Copies.{AreTerms-push}
 use Rattle.small_answers.proofs.terms.terms_of.Goals as goal
