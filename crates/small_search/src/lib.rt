@@ -5,7 +5,7 @@
 #![tactic(auto)]
 
 pub mod closing;
-mod constants;
+pub mod constants;
 mod draft;
 pub mod laws;
 mod rules_of;
@@ -14,6 +14,7 @@ mod waiting;
 mod worklist;
 
 pub use closing::Closing;
+pub use constants::constant_at;
 pub use table::Table;
 pub use worklist::search;
 
