@@ -49,7 +49,17 @@ impl Model for Body {
 #[cycle(term)]
 #[derive(Drop)]
 pub struct Terms {
-    items: Option<Arc<Vec<Term>>>,
+    items: Kept,
+}
+
+// A list of one or two stands in the block that copies share: fewer steps to its terms, and one block less.
+#[cycle(term)]
+#[derive(Drop)]
+enum Kept {
+    Empty,
+    One(Arc<[Term; 1]>),
+    Two(Arc<[Term; 2]>),
+    More(Arc<Vec<Term>>),
 }
 
 impl Model for Terms {
@@ -101,18 +111,32 @@ impl Terms {
     pub fn new() -> Terms
         ensures { result ≡ no_args }
     {
-        Terms { items: None }
+        Terms { items: Kept::Empty }
     }
 
     /// The terms of a vector.
-    pub fn from_vec(alloc: Global, items: Vec<Term>) -> Result<Terms, NoMemory>
+    pub fn from_vec(alloc: Global, mut items: Vec<Term>) -> Result<Terms, NoMemory>
         ensures { IfOk result (λ terms. terms ≡ spine_of items.items) }
     {
-        if items.is_empty() {
-            return Ok(Terms { items: None });
+        if items.len() > 2 {
+            let block = Arc::new(alloc, items)?;
+            return Ok(Terms {
+                items: Kept::More(block),
+            });
         }
-        let block = Arc::new(alloc, items)?;
-        Ok(Terms { items: Some(block) })
+        let Some(last) = items.pop() else {
+            return Ok(Terms { items: Kept::Empty });
+        };
+        let Some(first) = items.pop() else {
+            let block = Arc::new(alloc, [last])?;
+            return Ok(Terms {
+                items: Kept::One(block),
+            });
+        };
+        let block = Arc::new(alloc, [first, last])?;
+        Ok(Terms {
+            items: Kept::Two(block),
+        })
     }
 
     /// The terms as a slice. It takes no memory.
@@ -120,8 +144,10 @@ impl Terms {
         ensures { spine_of result.now ≡ self.now }
     {
         match &self.items {
-            None => &[],
-            Some(block) => block.as_slice(),
+            Kept::Empty => &[],
+            Kept::One(block) => &block[..],
+            Kept::Two(block) => &block[..],
+            Kept::More(block) => block.as_slice(),
         }
     }
 
@@ -136,13 +162,13 @@ impl Terms {
     pub fn copy(&self) -> Result<Terms, NoMemory>
         ensures { IfOk result (λ terms. terms ≡ self.now) }
     {
-        match &self.items {
-            None => Ok(Terms { items: None }),
-            Some(block) => {
-                let block = Arc::try_clone(block)?;
-                Ok(Terms { items: Some(block) })
-            }
-        }
+        let items = match &self.items {
+            Kept::Empty => Kept::Empty,
+            Kept::One(block) => Kept::One(Arc::try_clone(block)?),
+            Kept::Two(block) => Kept::Two(Arc::try_clone(block)?),
+            Kept::More(block) => Kept::More(Arc::try_clone(block)?),
+        };
+        Ok(Terms { items })
     }
 }
 
