@@ -8,3 +8,8 @@ pub mod Laws
 pub mod Types
 pub mod Typing
 pub mod Weakening
+pub mod Failures
+pub mod Growth
+pub mod ShapedGoals
+pub mod Decisions
+pub mod TypingLaws

@@ -9,7 +9,7 @@ use Rattle.lf_definitions.specs.Typing.{Typing, with_variable, Typed, typed_lam,
 use Rattle.lf_definitions.proofs.Types.{shape_of-rename_type, shape_of-SubstitutedType}
 
 -- A variable more has the shape of its type.
-shapes_of-with_variable : (Γ : Typing) (a : LfType) (h : LfHead) → shapes_of (with_variable a Γ) h ≡ under (shape_of a) (shapes_of Γ) h
+pub shapes_of-with_variable : (Γ : Typing) (a : LfType) (h : LfHead) → shapes_of (with_variable a Γ) h ≡ under (shape_of a) (shapes_of Γ) h
 shapes_of-with_variable Γ a (bound zero) = ap Some (shape_of-rename_type a next)
 shapes_of-with_variable Γ a (bound (suc n)) = raised (Γ (bound n))
   where
@@ -19,7 +19,7 @@ shapes_of-with_variable Γ a (bound (suc n)) = raised (Γ (bound n))
 shapes_of-with_variable Γ a (constant c) = refl
 shapes_of-with_variable Γ a (metavariable g) = refl
 
-shape_of-pis : (bs : List LfType) (f : ℕ) (args : Spine) → shape_of (pis bs (family f args)) ≡ arrows (shapes_of_types bs) base
+pub shape_of-pis : (bs : List LfType) (f : ℕ) (args : Spine) → shape_of (pis bs (family f args)) ≡ arrows (shapes_of_types bs) base
 shape_of-pis [] f args = refl
 shape_of-pis (b ∷ bs) f args = ap (arrow (shape_of b)) (shape_of-pis bs f args)
 

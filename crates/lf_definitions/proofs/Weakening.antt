@@ -1,11 +1,12 @@
 -- Typing goes along with renamings of variables that keep types.
 use Rattle.std.proofs.Common.{◌≡◌, ℕ, zero, suc, Option, Some, None, option_map, List, [], ◌∷◌, length, refl, sym, ap, ◌∙◌, subst}
 use mathlib.Core.Path.{fun_ext}
-use Rattle.lf_definitions.specs.Syntax.{LfHead, bound, constant, metavariable, LfTerm, Spine, no_args, arg, args_count, LfType, pi, family, pis}
-use Rattle.lf_definitions.specs.Renaming.{next, Renaming, lifted, lifted_by, rename, rename_spine, rename_type, raise_type}
+use Rattle.lf_definitions.specs.Syntax.{LfHead, bound, constant, metavariable, LfTerm, Spine, no_args, arg, args_count, LfType, pi, family, Context, pis}
+use Rattle.lf_definitions.specs.Renaming.{next, Renaming, lifted, lifted_by, rename, rename_spine, rename_type, rename_context, raise_type}
 use Rattle.lf_definitions.specs.Substitution.{Replacement, stays, push, push_all, SubstitutedSpine}
-use Rattle.lf_definitions.specs.Typing.{Typing, with_variable, Typed, typed_lam, typed_at, TypedSpine, typed_none, typed_arg, Kinds, Formed, formed_pi, formed_family}
+use Rattle.lf_definitions.specs.Typing.{Typing, with_variable, Typed, typed_lam, typed_at, TypedSpine, typed_none, typed_arg, Kinds, Formed, formed_pi, formed_family, FormedContext, formed_empty, formed_entry}
 use Rattle.lf_definitions.specs.Laws.{variables, KeepsTypes}
+use Rattle.lf_definitions.specs.TypingLaws.{ClosedKinds}
 use Rattle.lf_definitions.proofs.Renaming.{extended-next, rename_type-rename_type, Follows, Follows-push, SubstitutedType-rename_type, SubstitutedSpine-rename_spine}
 
 -- under a binder
@@ -46,12 +47,7 @@ KeepsTypes-head v Γ Δ keeps (bound n) a e = keeps.0 n a e
 KeepsTypes-head v Γ Δ keeps (constant c) a e = let k = keeps.1 c a e in k.0 ∙ ap Some (sym (k.1 v))
 KeepsTypes-head v Γ Δ keeps (metavariable g) a e = let k = keeps.2 g a e in k.0 ∙ ap Some (sym (k.1 v))
 
--- binders, each in the scope of those before it
-abbrev rename_binders : Renaming → List LfType → List LfType
-rename_binders ξ [] = []
-rename_binders ξ (a ∷ rest) = rename_type ξ a ∷ rename_binders (lifted ξ) rest
-
-rename_type-pis : (ξ : Renaming) (bs : List LfType) (end : LfType) → rename_type ξ (pis bs end) ≡ pis (rename_binders ξ bs) (rename_type (lifted_by (length bs) ξ) end)
+rename_type-pis : (ξ : Renaming) (bs : List LfType) (end : LfType) → rename_type ξ (pis bs end) ≡ pis (rename_context ξ bs) (rename_type (lifted_by (length bs) ξ) end)
 rename_type-pis ξ [] end = refl
 rename_type-pis ξ (b ∷ bs) end = ap (pi (rename_type ξ b)) (rename_type-pis (lifted ξ) bs end)
 
@@ -59,7 +55,7 @@ Follows-push_all : (ts : Spine) (ξ ζ : Renaming) (σ τ : Replacement) → Fol
 Follows-push_all no_args ξ ζ σ τ follows = follows
 Follows-push_all (arg t ts) ξ ζ σ τ follows = Follows-push_all ts (lifted ξ) ζ (push t σ) (push (rename ζ t) τ) (Follows-push ξ ζ σ τ t follows)
 
-args_count-TypedSpine : {Γ : Typing} {σ : Replacement} {ts : Spine} {bs : List LfType} → TypedSpine Γ σ ts bs → args_count ts ≡ length bs
+pub args_count-TypedSpine : {Γ : Typing} {σ : Replacement} {ts : Spine} {bs : List LfType} → TypedSpine Γ σ ts bs → args_count ts ≡ length bs
 args_count-TypedSpine typed_none = refl
 args_count-TypedSpine (typed_arg c r p ps) = ap suc (args_count-TypedSpine ps)
 
@@ -70,14 +66,14 @@ mutual
       (Typed-rename p (under_binder v) (with_variable (rename_type (variables v) a) Δ) (KeepsTypes-under_binder v Γ Δ a keeps)))
   Typed-rename (typed_at {Γ = Γ} {h = h} {ts = ts} {results = rs} {f = f} bs args e ps result) v Δ keeps =
       let ζ = variables v in
-      typed_at (rename_binders ζ bs) (rename_spine (lifted_by (length bs) ζ) args)
+      typed_at (rename_context ζ bs) (rename_spine (lifted_by (length bs) ζ) args)
       (KeepsTypes-head v Γ Δ keeps h (pis bs (family f args)) e ∙ ap Some (rename_type-pis ζ bs (family f args)))
       (TypedSpine-rename_spine ps v Δ keeps ζ stays (λ h. refl))
       (subst (λ n. SubstitutedSpine (push_all (rename_spine ζ ts) stays) (rename_spine (lifted_by n ζ) args) (rename_spine ζ rs)) (args_count-TypedSpine ps)
       (SubstitutedSpine-rename_spine result (lifted_by (args_count ts) ζ) ζ (push_all (rename_spine ζ ts) stays) (Follows-push_all ts ζ ζ stays stays (λ h. refl))))
 
   pub TypedSpine-rename_spine : {Γ : Typing} {σ : Replacement} {ts : Spine} {bs : List LfType} → TypedSpine Γ σ ts bs → (v : ℕ → ℕ) (Δ : Typing) → KeepsTypes v Γ Δ →
-      (ξ : Renaming) (τ : Replacement) → Follows ξ (variables v) σ τ → TypedSpine Δ τ (rename_spine (variables v) ts) (rename_binders ξ bs)
+      (ξ : Renaming) (τ : Replacement) → Follows ξ (variables v) σ τ → TypedSpine Δ τ (rename_spine (variables v) ts) (rename_context ξ bs)
   TypedSpine-rename_spine typed_none v Δ keeps ξ τ follows = typed_none
   TypedSpine-rename_spine (typed_arg {σ = σ} {t = t} c result p ps) v Δ keeps ξ τ follows =
       let ζ = variables v in
@@ -85,11 +81,17 @@ mutual
       (TypedSpine-rename_spine ps v Δ keeps (lifted ξ) (push (rename ζ t) τ) (Follows-push ξ ζ σ τ t follows))
 
 -- The kinds of families are closed.
-pub Formed-rename : {kinds : Kinds} {Γ : Typing} {a : LfType} → Formed kinds Γ a → (v : ℕ → ℕ) (Δ : Typing) → KeepsTypes v Γ Δ →
-    ((f : ℕ) (bs : List LfType) → kinds f ≡ Some bs → (w : ℕ → ℕ) → rename_binders (variables w) bs ≡ bs) → Formed kinds Δ (rename_type (variables v) a)
+pub Formed-rename : {kinds : Kinds} {Γ : Typing} {a : LfType} → Formed kinds Γ a → (v : ℕ → ℕ) (Δ : Typing) → KeepsTypes v Γ Δ → ClosedKinds kinds → Formed kinds Δ (rename_type (variables v) a)
 Formed-rename {kinds} (formed_pi {Γ = Γ} {a = a} {b = b} p q) v Δ keeps closed =
     formed_pi (Formed-rename p v Δ keeps closed)
     (subst (λ ξ. Formed kinds (with_variable (rename_type (variables v) a) Δ) (rename_type ξ b)) (fun_ext (variables-under_binder v))
     (Formed-rename q (under_binder v) (with_variable (rename_type (variables v) a) Δ) (KeepsTypes-under_binder v Γ Δ a keeps) closed))
 Formed-rename (formed_family {args = ts} bs e ps) v Δ keeps closed =
     formed_family bs e (subst (TypedSpine Δ stays (rename_spine (variables v) ts)) (closed _ bs e v) (TypedSpine-rename_spine ps v Δ keeps (variables v) stays (λ h. refl)))
+
+pub FormedContext-rename : {kinds : Kinds} {Γ : Typing} {ctx : Context} → FormedContext kinds Γ ctx → (v : ℕ → ℕ) (Δ : Typing) → KeepsTypes v Γ Δ → ClosedKinds kinds → FormedContext kinds Δ (rename_context (variables v) ctx)
+FormedContext-rename formed_empty v Δ keeps closed = formed_empty
+FormedContext-rename {kinds} (formed_entry {Γ = Γ} {a = a} {rest = rest} p q) v Δ keeps closed =
+    formed_entry (Formed-rename p v Δ keeps closed)
+    (subst (λ ξ. FormedContext kinds (with_variable (rename_type (variables v) a) Δ) (rename_context ξ rest)) (fun_ext (variables-under_binder v))
+    (FormedContext-rename q (under_binder v) (with_variable (rename_type (variables v) a) Δ) (KeepsTypes-under_binder v Γ Δ a keeps) closed))

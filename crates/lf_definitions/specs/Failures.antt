@@ -1,7 +1,7 @@
 -- The first test of a term, a type, a context or a kind that fails, by the path to the part at which it fails.
 -- The children of a type are its binders and then its arguments; those of a spine are its arguments; the body of an abstraction is child 0.
-use Rattle.std.specs.Prelude.{◌≡◌, ◌≢◌, ℕ, ◌+◌, suc, List, [], ◌∷◌, length, Option, Some, None}
-use Rattle.lf_definitions.specs.Syntax.{LfHead, LfTerm, lam, at, Spine, no_args, arg, LfType, pi, family, Context, LfKind, pis, args_count}
+use Rattle.std.specs.Prelude.{◌≡◌, ◌≢◌, ℕ, suc, List, [], ◌∷◌, length, Some, None}
+use Rattle.lf_definitions.specs.Syntax.{LfHead, LfTerm, lam, at, Spine, arg, LfType, pi, family, Context, LfKind, pis, args_count}
 use Rattle.lf_definitions.specs.Substitution.{Replacement, stays, push, push_all, SubstitutedSpine, SubstitutedType}
 use Rattle.lf_definitions.specs.Typing.{Typing, with_variable, Typed, TypedSpine, Kinds, Formed}
 

@@ -6,5 +6,7 @@ pub mod Expansion
 pub mod Typing
 pub mod Signatures
 pub mod Failures
+pub mod ShapedGoals
 pub mod Laws
+pub mod TypingLaws
 pub mod Codes

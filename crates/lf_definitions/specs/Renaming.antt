@@ -1,6 +1,6 @@
 -- Renaming: each head of a term becomes another head.
-use Rattle.std.specs.Prelude.{ℕ, zero, suc}
-use Rattle.lf_definitions.specs.Syntax.{LfHead, bound, constant, metavariable, LfTerm, lam, at, Spine, no_args, arg, LfType, pi, family}
+use Rattle.std.specs.Prelude.{ℕ, zero, suc, [], ◌∷◌}
+use Rattle.lf_definitions.specs.Syntax.{LfHead, bound, constant, metavariable, LfTerm, lam, at, Spine, no_args, arg, LfType, pi, family, Context}
 
 -- a head as it is seen from under one more binder
 abbrev pub next : LfHead → LfHead
@@ -35,6 +35,11 @@ abbrev mutual
 abbrev pub rename_type : Renaming → LfType → LfType
 rename_type ξ (pi a b) = pi (rename_type ξ a) (rename_type (lifted ξ) b)
 rename_type ξ (family f args) = family f (rename_spine ξ args)
+
+-- A context, or a kind: each entry is in the scope of those before it.
+abbrev pub rename_context : Renaming → Context → Context
+rename_context ξ [] = []
+rename_context ξ (a ∷ rest) = rename_type ξ a ∷ rename_context (lifted ξ) rest
 
 -- a term as it is seen from under one more binder
 abbrev pub raise : LfTerm → LfTerm

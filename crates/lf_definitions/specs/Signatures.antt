@@ -1,7 +1,7 @@
 -- Signatures: families with their kinds and constants with their types, in the order in which they were added.
 use Rattle.std.specs.Prelude.{◌≡◌, ◌≢◌, ℕ, List, [], ◌∷◌, ◌++◌, map, All}
 use Rattle.lf_definitions.specs.Syntax.{LfType, Context, LfKind}
-use Rattle.lf_definitions.specs.Typing.{Typing, Kinds, Formed, FormedKind, LfGoal, kinds_of, typed_globals, types_in}
+use Rattle.lf_definitions.specs.Typing.{Typing, Kinds, Formed, FormedKind, LfGoal, kinds_of, types_in}
 
 -- A family with its kind, or a constant with its type. A name is the list of its bytes.
 pub data LfEntry : Type 0 where

@@ -3,6 +3,7 @@
 #![tactic(auto)]
 
 ghost use Rattle.lf_definitions.specs.Laws.{ImagesAreByNumber, ShapedSubstitutionsHaveOneResult, SubstitutionsCompose, SubstitutionsAreSimultaneous, OwnVariablesChangeNothing, EtaVariablesBecomeTheirTerms, EtaFormsRename, EtaFormsAreShaped, RenamingsCompose, RenamingsKeepShapes, RenamingsKeepSizes, RenamingsAreInjective, SubstitutionsAreRenamed, RenamingsKeepTypes, TypedTermsAreShaped};
+ghost use Rattle.lf_definitions.specs.TypingLaws.{FailuresExcludeDerivations, FirstFailuresAreUnique, ShapedChecksHaveAResult, FormedContextsAreShaped, RenamingsKeepWhatIsFormed, SignaturesGrow, EntriesAreFormed};
 
 /// What a list for the innermost variables does to each head, by numbers.
 pub fn images_are_by_number()
@@ -77,4 +78,39 @@ pub fn renamings_keep_types()
 /// Typed terms are shaped, and so are well-formed types.
 pub fn typed_terms_are_shaped()
     ensures { TypedTermsAreShaped }
+{}
+
+/// What fails at a path isn't typed or well formed.
+pub fn failures_exclude_derivations()
+    ensures { FailuresExcludeDerivations }
+{}
+
+/// The path of the first failure is unique.
+pub fn first_failures_are_unique()
+    ensures { FirstFailuresAreUnique }
+{}
+
+/// Where all types are shaped, each term is typed or fails at a path, and each type, context and kind is well formed or fails at a path.
+pub fn shaped_checks_have_a_result()
+    ensures { ShapedChecksHaveAResult }
+{}
+
+/// Well-formed contexts, kinds and signatures are shaped.
+pub fn formed_contexts_are_shaped()
+    ensures { FormedContextsAreShaped }
+{}
+
+/// A renaming of variables that keeps the types of heads keeps well-formed types and contexts.
+pub fn renamings_keep_what_is_formed()
+    ensures { RenamingsKeepWhatIsFormed }
+{}
+
+/// What is typed or well formed over a signature is so over each that begins with it.
+pub fn signatures_grow()
+    ensures { SignaturesGrow }
+{}
+
+/// In a well-formed signature each entry is well formed over the whole, and the names differ.
+pub fn entries_are_formed()
+    ensures { EntriesAreFormed }
 {}
