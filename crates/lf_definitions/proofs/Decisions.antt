@@ -5,14 +5,14 @@ use Rattle.lf_definitions.specs.Shaping.{Scope, under, under_all, Shaped, Shaped
 use Rattle.lf_definitions.specs.Substitution.{Replacement, stays, push, push_all, SubstitutedSpine, SubstitutedType}
 use Rattle.lf_definitions.specs.Typing.{Typing, with_variable, Typed, typed_lam, typed_at, TypedSpine, typed_none, typed_arg, Kinds, Formed, formed_pi, formed_family, FormedContext, formed_empty, formed_entry, shapes_of, shapes_of_kinds}
 use Rattle.lf_definitions.specs.Failures.{FailsTerm, fails_lam, fails_at, fails_in_body, fails_head, fails_count, fails_in_argument, fails_result, FailsSpine, fails_here, fails_later, FailsType, FailsTypeFrom, fails_binder, fails_rest, fails_family, fails_family_count, fails_family_argument, FailsContextFrom, fails_entry, fails_entries}
-use Rattle.lf_definitions.specs.ShapedGoals.{ShapedContext, shaped_entry}
+use Rattle.lf_definitions.specs.ShapedGoals.{ShapedTyping, ShapedContext, shaped_entry}
 use Rattle.lf_definitions.specs.TypingLaws.{HoldsOrFails}
 use Rattle.lf_definitions.proofs.Totality.{Goes, Goes-stays, Goes-push, total_spine}
 use Rattle.lf_definitions.proofs.Telescopes.{Goes-push_all}
 use Rattle.lf_definitions.proofs.Types.{total_type, shape_of-SubstitutedType}
 use Rattle.lf_definitions.proofs.Typing.{Shaped-Typed, ShapedSpine-TypedSpine, ShapedType-Formed}
 use Rattle.lf_definitions.proofs.Failures.{binders_of, family_of, family_args_of}
-use Rattle.lf_definitions.proofs.ShapedGoals.{ShapedTyping, ShapedTyping-head, ShapedTyping-family, ShapedTyping-with_variable, shapes_of-under, ShapedContext-pis, ShapedType-under_pis}
+use Rattle.lf_definitions.proofs.ShapedGoals.{ShapedTyping-head, ShapedTyping-family, ShapedTyping-with_variable, shapes_of-under, ShapedContext-pis, ShapedType-under_pis}
 
 -- Equality of syntax is decided.
 abbrev pub SameOrNot : {A : Type 0} → A → A → Type 0

@@ -13,3 +13,6 @@ pub mod Growth
 pub mod ShapedGoals
 pub mod Decisions
 pub mod TypingLaws
+pub mod Unrenaming
+pub mod Variables
+pub mod TypedSpines

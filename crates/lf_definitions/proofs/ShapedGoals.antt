@@ -7,7 +7,7 @@ use Rattle.lf_definitions.specs.Renaming.{next, raise_type}
 use Rattle.lf_definitions.specs.Shaping.{Scope, under, under_all, shape_at, shape_of_metavariable, globals, ShapedType, shaped_pi}
 use Rattle.lf_definitions.specs.Typing.{Typing, with_variable, with_context, Kinds, FormedContext, formed_empty, formed_entry, LfGoal, goal_type, type_at, type_of_metavariable, kinds_of, typed_globals, shapes_of, shapes_of_kinds}
 use Rattle.lf_definitions.specs.Signatures.{family_entry, constant_entry, LfSignature, family_kinds, constant_types, kinds_in, typing_in, FormedEntry, FormedSignature}
-use Rattle.lf_definitions.specs.ShapedGoals.{ShapedContext, shaped_empty, shaped_entry, shapes_of_goals, kind_shapes_in, scope_in, ShapedTypeIn, ShapedContextIn, ShapedSignature, ShapedGoal, ShapedGoals}
+use Rattle.lf_definitions.specs.ShapedGoals.{ShapedContext, shaped_empty, shaped_entry, shapes_of_goals, kind_shapes_in, scope_in, ShapedTypeIn, ShapedContextIn, ShapedSignature, ShapedGoal, ShapedGoals, without_variables, ShapedTyping}
 use Rattle.lf_definitions.proofs.Renaming.{same_head, rename_type-same_head, KeepsShapes-next}
 use Rattle.lf_definitions.proofs.Types.{ShapedType-rename_type}
 use Rattle.lf_definitions.proofs.Typing.{shapes_of-with_variable, ShapedType-Formed}
@@ -44,23 +44,10 @@ pub ShapedType-under_pis : (bs : List LfType) (end : LfType) {kinds : ℕ → Op
 ShapedType-under_pis [] end p = p
 ShapedType-under_pis (b ∷ bs) end (shaped_pi p q) = ShapedType-under_pis bs end q
 
--- the heads but for variables
-abbrev pub without_variables : Scope → Scope
-without_variables Γ (bound n) = None
-without_variables Γ (constant c) = Γ (constant c)
-without_variables Γ (metavariable g) = Γ (metavariable g)
-
 pub ScopeGrows-without_variables : (Γ : Scope) → ScopeGrows (without_variables Γ) Γ
 ScopeGrows-without_variables Γ (bound n) s e = absurd cc
 ScopeGrows-without_variables Γ (constant c) s e = e
 ScopeGrows-without_variables Γ (metavariable g) s e = e
-
--- The types of variables are shaped, and with no variables so are the types of the other heads and the kinds.
-pub record ShapedTyping (kinds : Kinds) (Γ : Typing) : Type 0 where
-  pub of_variables : (n : ℕ) (a : LfType) → Γ (bound n) ≡ Some a → ShapedType (shapes_of_kinds kinds) (shapes_of Γ) a
-  pub of_constants : (c : ℕ) (a : LfType) → Γ (constant c) ≡ Some a → ShapedType (shapes_of_kinds kinds) (without_variables (shapes_of Γ)) a
-  pub of_metavariables : (g : ℕ) (a : LfType) → Γ (metavariable g) ≡ Some a → ShapedType (shapes_of_kinds kinds) (without_variables (shapes_of Γ)) a
-  pub of_families : (f : ℕ) (kind : LfKind) → kinds f ≡ Some kind → ShapedContext (shapes_of_kinds kinds) (without_variables (shapes_of Γ)) kind
 
 pub ShapedTyping-head : (kinds : Kinds) (Γ : Typing) → ShapedTyping kinds Γ → (h : LfHead) (a : LfType) → Γ h ≡ Some a → ShapedType (shapes_of_kinds kinds) (shapes_of Γ) a
 ShapedTyping-head kinds Γ shaped (bound n) a e = shaped.of_variables n a e

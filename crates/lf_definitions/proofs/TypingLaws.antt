@@ -2,12 +2,12 @@
 use Rattle.std.proofs.Common.{◌++◌, sym, subst}
 use Rattle.lf_definitions.specs.Shaping.{ShapedType}
 use Rattle.lf_definitions.specs.Signatures.{kinds_in, typing_in}
-use Rattle.lf_definitions.specs.ShapedGoals.{kind_shapes_in}
+use Rattle.lf_definitions.specs.ShapedGoals.{kind_shapes_in, ShapedTyping}
 use Rattle.lf_definitions.specs.TypingLaws.{FailuresExcludeDerivations, FirstFailuresAreUnique, ShapedChecksHaveAResult, FormedContextsAreShaped, RenamingsKeepWhatIsFormed, SignaturesGrow, EntriesAreFormed}
 use Rattle.lf_definitions.proofs.Failures.{FailsTerm-Typed, FailsTypeFrom-Formed, FailsContextFrom-FormedContext, unique_path, unique_path_type, unique_path_context}
 use Rattle.lf_definitions.proofs.Weakening.{Formed-rename, FormedContext-rename}
 use Rattle.lf_definitions.proofs.Growth.{Typed-grown, Formed-grown, FormedContext-grown, TypesGrow-typing_in, KindsGrow-kinds_in, AllFormed, names_differ}
-use Rattle.lf_definitions.proofs.ShapedGoals.{ShapedContext-FormedContext, ShapedSignature-FormedSignature, ShapedTyping, ShapedTyping-typing_in, shapes_of-typing_in}
+use Rattle.lf_definitions.proofs.ShapedGoals.{ShapedContext-FormedContext, ShapedSignature-FormedSignature, ShapedTyping-typing_in, shapes_of-typing_in}
 use Rattle.lf_definitions.proofs.Decisions.{decide_term, decide_type, decide_context}
 
 pub failures_exclude_derivations : FailuresExcludeDerivations

@@ -47,11 +47,11 @@ KeepsTypes-head v Γ Δ keeps (bound n) a e = keeps.0 n a e
 KeepsTypes-head v Γ Δ keeps (constant c) a e = let k = keeps.1 c a e in k.0 ∙ ap Some (sym (k.1 v))
 KeepsTypes-head v Γ Δ keeps (metavariable g) a e = let k = keeps.2 g a e in k.0 ∙ ap Some (sym (k.1 v))
 
-rename_type-pis : (ξ : Renaming) (bs : List LfType) (end : LfType) → rename_type ξ (pis bs end) ≡ pis (rename_context ξ bs) (rename_type (lifted_by (length bs) ξ) end)
+pub rename_type-pis : (ξ : Renaming) (bs : List LfType) (end : LfType) → rename_type ξ (pis bs end) ≡ pis (rename_context ξ bs) (rename_type (lifted_by (length bs) ξ) end)
 rename_type-pis ξ [] end = refl
 rename_type-pis ξ (b ∷ bs) end = ap (pi (rename_type ξ b)) (rename_type-pis (lifted ξ) bs end)
 
-Follows-push_all : (ts : Spine) (ξ ζ : Renaming) (σ τ : Replacement) → Follows ξ ζ σ τ → Follows (lifted_by (args_count ts) ξ) ζ (push_all ts σ) (push_all (rename_spine ζ ts) τ)
+pub Follows-push_all : (ts : Spine) (ξ ζ : Renaming) (σ τ : Replacement) → Follows ξ ζ σ τ → Follows (lifted_by (args_count ts) ξ) ζ (push_all ts σ) (push_all (rename_spine ζ ts) τ)
 Follows-push_all no_args ξ ζ σ τ follows = follows
 Follows-push_all (arg t ts) ξ ζ σ τ follows = Follows-push_all ts (lifted ξ) ζ (push t σ) (push (rename ζ t) τ) (Follows-push ξ ζ σ τ t follows)
 

@@ -1,8 +1,8 @@
 -- When contexts, signatures and lists of goals are shaped.
-use Rattle.std.specs.Prelude.{◌≢◌, ℕ, List, [], ◌∷◌, map, All, AllPairs, Option}
-use Rattle.lf_definitions.specs.Syntax.{SimpleType, LfType, Context, shape_of, shapes_of_types}
+use Rattle.std.specs.Prelude.{◌≡◌, ◌≢◌, ℕ, List, [], ◌∷◌, map, All, AllPairs, Option, Some, None}
+use Rattle.lf_definitions.specs.Syntax.{bound, constant, metavariable, SimpleType, LfType, Context, LfKind, shape_of, shapes_of_types}
 use Rattle.lf_definitions.specs.Shaping.{Scope, under, ShapedType, shapes_in}
-use Rattle.lf_definitions.specs.Typing.{LfGoal, goal_type, shapes_of_kinds}
+use Rattle.lf_definitions.specs.Typing.{Typing, Kinds, LfGoal, goal_type, shapes_of, shapes_of_kinds}
 use Rattle.lf_definitions.specs.Signatures.{LfSignature, family_kinds, constant_types, kinds_in}
 
 -- A context is shaped where each entry is, in the scope of those before it. So is a kind.
@@ -41,3 +41,16 @@ ShapedGoal sig goals g = ShapedContextIn sig goals [] g.context × ShapedTypeIn 
 -- A list of goals is shaped where their numbers differ and each is shaped among them.
 abbrev pub ShapedGoals : LfSignature → List LfGoal → Type 0
 ShapedGoals sig goals = AllPairs (λ g h. g.id ≢ h.id) goals × All (ShapedGoal sig goals) goals
+
+-- what is known of the heads but for variables
+abbrev pub without_variables : Scope → Scope
+without_variables Γ (bound n) = None
+without_variables Γ (constant c) = Γ (constant c)
+without_variables Γ (metavariable g) = Γ (metavariable g)
+
+-- The types of variables are shaped, and with no variables so are the types of the other heads and the kinds.
+pub record ShapedTyping (kinds : Kinds) (Γ : Typing) : Type 0 where
+  pub of_variables : (n : ℕ) (a : LfType) → Γ (bound n) ≡ Some a → ShapedType (shapes_of_kinds kinds) (shapes_of Γ) a
+  pub of_constants : (c : ℕ) (a : LfType) → Γ (constant c) ≡ Some a → ShapedType (shapes_of_kinds kinds) (without_variables (shapes_of Γ)) a
+  pub of_metavariables : (g : ℕ) (a : LfType) → Γ (metavariable g) ≡ Some a → ShapedType (shapes_of_kinds kinds) (without_variables (shapes_of Γ)) a
+  pub of_families : (f : ℕ) (kind : LfKind) → kinds f ≡ Some kind → ShapedContext (shapes_of_kinds kinds) (without_variables (shapes_of Γ)) kind
