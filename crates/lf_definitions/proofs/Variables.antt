@@ -55,3 +55,15 @@ with_context-constant (a ∷ ctx) Γ c = with_context-constant ctx (with_variabl
 pub with_context-metavariable : (ctx : Context) (Γ : Typing) (g : ℕ) → with_context ctx Γ (metavariable g) ≡ Γ (metavariable g)
 with_context-metavariable [] Γ g = refl
 with_context-metavariable (a ∷ ctx) Γ g = with_context-metavariable ctx (with_variable a Γ) g
+
+-- one after another
+next_by-next_by : (m n : ℕ) (h : LfHead) → next_by m (next_by n h) ≡ next_by (n + m) h
+next_by-next_by m zero h =
+    let count : m ≡ zero + m = omega arith in
+    ap (λ k. next_by k h) count
+next_by-next_by m (suc n) h =
+    let count : suc (n + m) ≡ suc n + m = omega arith in
+    next_by-next_by m n (next h) ∙ ap (λ k. next_by k h) count
+
+pub rename_type-next_by_again : (m n : ℕ) (a : LfType) → rename_type (next_by m) (rename_type (next_by n) a) ≡ rename_type (next_by (n + m)) a
+rename_type-next_by_again m n a = rename_type-rename_type a (next_by m) (next_by n) ∙ ap (λ ξ. rename_type ξ a) (fun_ext (next_by-next_by m n))

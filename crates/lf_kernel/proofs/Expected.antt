@@ -1,0 +1,66 @@
+-- The shapes of the arguments before a place and of the binders that they are put for.
+use Rattle.std.proofs.Common.{◌≡◌, ℕ, zero, suc, ◌+◌, ◌<◌, ◌≤◌, Option, Some, List, [], ◌∷◌, ◌++◌, length, get_or, take, drop, refl, sym, ap, ap₂, ◌∙◌, subst, subst₂, arith}
+use Rattle.lf_definitions.specs.Syntax.{LfHead, LfTerm, Spine, SimpleType, base, arrows, shape_size, shapes_size, LfType, Context, family, pis, shape_of, shapes_of_types}
+use Rattle.lf_definitions.specs.Renaming.{Renaming, lifted, next_by, rename_type, rename_context}
+use Rattle.lf_definitions.specs.Shaping.{Scope, under, under_all, ShapedSpine, ShapedType, ShapedList}
+use Rattle.lf_definitions.specs.Substitution.{Replacement, stays, push_all, SubstitutedType, SubstitutedSpine}
+use Rattle.lf_definitions.specs.Typing.{Typing, TypedSpine, shapes_of}
+use Rattle.lf_definitions.specs.ShapedGoals.{ShapedContext, shaped_empty, shaped_entry}
+use Rattle.lf_definitions.proofs.Totality.{Goes, fits_stays}
+use Rattle.lf_definitions.proofs.Telescopes.{Goes-push_all}
+use Rattle.lf_definitions.proofs.Types.{shape_of-rename_type, ShapedType-SubstitutedType}
+use Rattle.lf_definitions.proofs.Typing.{ShapedSpine-TypedSpine}
+use Rattle.lf_terms.specs.declared.term.Term.{Term}
+use Rattle.lf_terms.specs.Terms.{term_of, spine_of}
+use Rattle.lf_terms.specs.declared.ty.Ty.{Ty}
+use Rattle.lf_terms.specs.Types.{type_of, types_of}
+use Rattle.lf_terms.specs.declared.shape.Shape.{Shape}
+use Rattle.lf_terms.specs.Shapes.{simple_type_of, simple_types_of}
+use Rattle.lf_kernel.proofs.Arguments.{raised, TypedUpTo, types_of-append, split_read}
+
+-- the scope in which the binders of a head stand, where what they speak of has risen on the way to the spine
+abbrev pub binders_scope : Typing → ℕ → Scope
+binders_scope Γ by h = shapes_of Γ (next_by by h)
+
+shapes_of-raised : (ξ : Renaming) (bs : Context) → shapes_of_types (rename_context ξ bs) ≡ shapes_of_types bs
+shapes_of-raised ξ [] = refl
+shapes_of-raised ξ (a ∷ bs) = ap₂ (λ s rest. s ∷ rest) (shape_of-rename_type a ξ) (shapes_of-raised (lifted ξ) bs)
+
+shapes_of_types-take : (ss : List Shape) (types : List Ty) (i : ℕ) → simple_types_of ss ≡ shapes_of_types (types_of types) → simple_types_of (take i ss) ≡ shapes_of_types (types_of (take i types))
+shapes_of_types-take ss types zero is = refl
+shapes_of_types-take [] [] (suc i) is = refl
+shapes_of_types-take [] (t ∷ types) (suc i) is = absurd cc
+shapes_of_types-take (s ∷ ss) [] (suc i) is = absurd cc
+shapes_of_types-take (s ∷ ss) (t ∷ types) (suc i) is =
+    let first : simple_type_of s ≡ shape_of (type_of t) = cc in
+    let later : simple_types_of ss ≡ shapes_of_types (types_of types) = cc in
+    ap₂ (λ x rest. x ∷ rest) first (shapes_of_types-take ss types i later)
+
+-- the arguments before a place have the shapes of their binders
+pub prefix_shaped : (Γ : Typing) (ξ : Renaming) (terms : List Term) (types : List Ty) (ss : List Shape) (i : ℕ) → simple_types_of ss ≡ shapes_of_types (types_of types) → TypedUpTo Γ ξ terms types i →
+    ShapedList (shapes_of Γ) (spine_of (take i terms)) (simple_types_of (take i ss))
+prefix_shaped Γ ξ terms types ss i is typed =
+    subst (ShapedList (shapes_of Γ) (spine_of (take i terms))) (shapes_of-raised ξ (types_of (take i types)) ∙ sym (shapes_of_types-take ss types i is)) (ShapedSpine-TypedSpine typed)
+
+ShapedContext-append : (front : Context) (a : LfType) (more : Context) {kinds : ℕ → Option SimpleType} {Θ : Scope} → ShapedContext kinds Θ (front ++ a ∷ more) → ShapedType kinds (under_all (shapes_of_types front) Θ) a
+ShapedContext-append [] a more (shaped_entry p ps) = p
+ShapedContext-append (b ∷ front) a more (shaped_entry p ps) = ShapedContext-append front a more ps
+
+-- and the binder at the place is shaped after those before it
+pub binder_shaped : (kinds : ℕ → Option SimpleType) (Θ : Scope) (types : List Ty) (ss : List Shape) (i : ℕ) (ty : Ty) → i < length types → ty ≡ get_or types i ty → simple_types_of ss ≡ shapes_of_types (types_of types) →
+    ShapedContext kinds Θ (types_of types) → ShapedType kinds (under_all (simple_types_of (take i ss)) Θ) (type_of ty)
+binder_shaped kinds Θ types ss i ty within is shapes_are shaped =
+    subst (λ l. ShapedType kinds (under_all l Θ) (type_of ty)) (sym (shapes_of_types-take ss types i shapes_are))
+    (ShapedContext-append (types_of (take i types)) (type_of ty) (types_of (drop (suc i) types))
+    (subst (ShapedContext kinds Θ) (ap types_of (split_read types i ty within is) ∙ types_of-append (take i types) (ty ∷ drop (suc i) types)) shaped))
+
+goes_outside : (p : ℕ) (Γ : Typing) (by : ℕ) → Goes p (binders_scope Γ by) (shapes_of Γ) (λ h. stays (next_by by h))
+goes_outside p Γ by h s e = fits_stays e
+
+-- so the type that is expected there is shaped
+pub expected_shaped : (kinds : ℕ → Option SimpleType) (Γ : Typing) (by : ℕ) (sub : Spine) (shapes : List SimpleType) (a c : LfType) → ShapedList (shapes_of Γ) sub shapes →
+    ShapedType kinds (under_all shapes (binders_scope Γ by)) a → SubstitutedType (push_all sub (λ h. stays (next_by by h))) a c → ShapedType kinds (shapes_of Γ) c
+expected_shaped kinds Γ by sub shapes a c shaped_sub shaped result =
+    let p = shape_size (arrows shapes base) in
+    ShapedType-SubstitutedType p kinds (under_all shapes (binders_scope Γ by)) (shapes_of Γ) (push_all sub (λ h. stays (next_by by h)))
+    (Goes-push_all p shapes sub (binders_scope Γ by) (shapes_of Γ) (λ h. stays (next_by by h)) (goes_outside p Γ by) shaped_sub (omega arith)) shaped result

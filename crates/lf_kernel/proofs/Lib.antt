@@ -1,0 +1,5 @@
+pub mod Scopes
+pub mod Arguments
+pub mod Paths
+pub mod Binders
+pub mod Expected

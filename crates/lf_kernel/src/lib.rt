@@ -1,0 +1,6 @@
+//! Typing: whether a term has a type and whether a type is well formed, with the place of the first failure.
+#![tactic(auto)]
+
+mod path;
+mod scope;
+mod stripping;
