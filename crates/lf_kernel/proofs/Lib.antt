@@ -3,3 +3,4 @@ pub mod Arguments
 pub mod Paths
 pub mod Binders
 pub mod Expected
+pub mod Heads
