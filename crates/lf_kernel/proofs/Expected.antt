@@ -16,13 +16,10 @@ use Rattle.lf_terms.specs.declared.ty.Ty.{Ty}
 use Rattle.lf_terms.specs.Types.{type_of, types_of}
 use Rattle.lf_terms.specs.declared.shape.Shape.{Shape}
 use Rattle.lf_terms.specs.Shapes.{simple_type_of, simple_types_of}
+use Rattle.lf_kernel.specs.Knowing.{binders_scope}
 use Rattle.lf_kernel.proofs.Arguments.{raised, TypedUpTo, types_of-append, split_read}
 
--- the scope in which the binders of a head stand, where what they speak of has risen on the way to the spine
-abbrev pub binders_scope : Typing → ℕ → Scope
-binders_scope Γ by h = shapes_of Γ (next_by by h)
-
-shapes_of-raised : (ξ : Renaming) (bs : Context) → shapes_of_types (rename_context ξ bs) ≡ shapes_of_types bs
+pub shapes_of-raised : (ξ : Renaming) (bs : Context) → shapes_of_types (rename_context ξ bs) ≡ shapes_of_types bs
 shapes_of-raised ξ [] = refl
 shapes_of-raised ξ (a ∷ bs) = ap₂ (λ s rest. s ∷ rest) (shape_of-rename_type a ξ) (shapes_of-raised (lifted ξ) bs)
 

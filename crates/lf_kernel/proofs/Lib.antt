@@ -4,3 +4,4 @@ pub mod Paths
 pub mod Binders
 pub mod Expected
 pub mod Heads
+pub mod Spines

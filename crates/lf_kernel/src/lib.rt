@@ -5,3 +5,4 @@ mod head_type;
 mod path;
 mod scope;
 mod stripping;
+mod walk;
