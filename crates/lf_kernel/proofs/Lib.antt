@@ -5,3 +5,4 @@ pub mod Binders
 pub mod Expected
 pub mod Heads
 pub mod Spines
+pub mod Under

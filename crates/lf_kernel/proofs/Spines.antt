@@ -1,5 +1,5 @@
 -- A spine by its parts: what each test that fails says, and what is left once all were passed.
-use Rattle.std.proofs.Common.{◌≡◌, ◌≢◌, ℕ, Option, Some, None, List, [], ◌∷◌, length, reverse, refl, sym, ap, ◌∙◌, subst, subst₂, arith}
+use Rattle.std.proofs.Common.{◌≡◌, ◌≢◌, ℕ, Bool, true, false, MatchBool, Option, Some, None, List, [], ◌∷◌, length, reverse, refl, sym, ap, ◌∙◌, subst, subst₂, arith}
 use Rattle.lf_definitions.specs.Syntax.{LfHead, LfTerm, lam, at, Spine, SimpleType, base, arrows, LfType, family, pis, Context, shape_of, shapes_of_types, args_count}
 use Rattle.lf_definitions.specs.Renaming.{next_by, lifted_by, rename_type, rename_spine, rename_context}
 use Rattle.lf_definitions.specs.Shaping.{Scope, under_all, ShapedSpine, ShapedType, shaped_family, ShapedList}
@@ -16,6 +16,7 @@ use Rattle.lf_terms.specs.Putting.{putting, Puts, ArgsShaped}
 use Rattle.lf_kernel.specs.declared.head_type.HeadType.{HeadType}
 use Rattle.lf_kernel.specs.Heads.{declared_type, seen_type}
 use Rattle.lf_kernel.specs.Knowing.{binders_scope}
+use Rattle.lf_kernel.specs.Results.{Gives}
 use Rattle.lf_kernel.proofs.Expected.{shapes_of-raised}
 
 pub lam_fails : (Γ : Typing) (t b : LfTerm) (f : ℕ) (results : Spine) (path : List ℕ) → t ≡ lam b → path ≡ [] → FailsTerm Γ t (family f results) (reverse path)
@@ -85,3 +86,10 @@ module _ (Γ : Typing) (h : LfHead) (found : HeadType) (known : ◌≡◌ {A = O
         shaped_sub = subst (ShapedList (shapes_of Γ) ts) (shapes_of-raised (next_by found.raise) found.binders.now ∙ sym shapes_are) (ShapedSpine-TypedSpine typed);
         shaped = subst (λ l. ShapedSpine (under_all l (binders_scope Γ found.raise)) found.args.now inside.0) (sym shapes_are) inside.1
       }
+
+-- what the test of the result says, by its answer
+pub gives_it : (h : HeadType) (args : Spine) (a : LfType) (same : Bool) → same ≡ true → Gives h args a same → (r : Spine) × SubstitutedSpine (putting args h.raise 0) h.args.now r × (family h.family r ≡ a)
+gives_it h args a same is (r, result, known) = (r, result, subst (λ b. MatchBool b (family h.family r ≡ a) (family h.family r ≢ a)) is known)
+
+pub gives_another : (h : HeadType) (args : Spine) (a : LfType) (same : Bool) → same ≡ false → Gives h args a same → (r : Spine) × SubstitutedSpine (putting args h.raise 0) h.args.now r × (family h.family r ≢ a)
+gives_another h args a same is (r, result, known) = (r, result, subst (λ b. MatchBool b (family h.family r ≡ a) (family h.family r ≢ a)) is known)
