@@ -6,3 +6,4 @@ pub mod Expected
 pub mod Heads
 pub mod Spines
 pub mod Under
+pub mod Families

@@ -63,3 +63,7 @@ well holds fails r is w = subst (Walks holds fails) is w
 
 pub ill : (holds : Type 0) (fails : List ℕ → Type 0) (r : Option (List ℕ)) (path : List ℕ) → r ≡ Some path → Walks holds fails r → fails (reverse path)
 ill holds fails r path is w = subst (Walks holds fails) is w
+
+pub walks_map : (holds other : Type 0) (fails others : List ℕ → Type 0) → (holds → other) → ((path : List ℕ) → fails path → others path) → (r : Option (List ℕ)) → Walks holds fails r → Walks other others r
+walks_map holds other fails others f g None w = f w
+walks_map holds other fails others f g (Some path) w = g (reverse path) w

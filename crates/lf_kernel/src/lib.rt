@@ -6,3 +6,4 @@ mod path;
 mod scope;
 mod stripping;
 mod walk;
+mod walk_type;
