@@ -7,3 +7,5 @@ pub mod Heads
 pub mod Spines
 pub mod Under
 pub mod Families
+pub mod Openings
+pub mod Counts

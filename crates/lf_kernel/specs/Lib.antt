@@ -4,3 +4,4 @@ pub mod Stripping
 pub mod Heads
 pub mod Knowing
 pub mod Results
+pub mod Adding
