@@ -1,6 +1,6 @@
 -- Binders that are well formed one by one, and where one of them fails.
-use Rattle.std.proofs.Common.{◌≡◌, ℕ, zero, suc, ◌+◌, ◌<◌, ◌≤◌, Option, List, [], ◌∷◌, ◌++◌, length, get_or, take, drop, refl, sym, ap, ◌∙◌, subst, subst₂, arith, take_all}
-use Rattle.lf_definitions.specs.Syntax.{LfType, pi, pis, Context}
+use Rattle.std.proofs.Common.{◌≡◌, ℕ, suc, ◌+◌, ◌<◌, ◌≤◌, Option, List, [], ◌∷◌, ◌++◌, length, get_or, take, drop, sym, ap, ◌∙◌, subst, subst₂, arith, take_all}
+use Rattle.lf_definitions.specs.Syntax.{LfType, pis, Context}
 use Rattle.lf_definitions.specs.Typing.{Typing, with_variable, with_context, Kinds, Formed, formed_pi, FormedContext, formed_empty, formed_entry}
 use Rattle.lf_definitions.specs.Failures.{FailsType, FailsTypeFrom, fails_binder, fails_rest, FailsContextFrom, fails_entry, fails_entries}
 use Rattle.lf_terms.specs.declared.ty.Ty.{Ty}
@@ -71,5 +71,5 @@ type_walk kinds Γ types binders end are formed r w =
     (walks_map (Formed kinds (with_context (types_of types) Γ) end) (Formed kinds Γ (pis (types_of types) end)) (FailsTypeFrom kinds (with_context (types_of types) Γ) end (length types)) (FailsType kinds Γ (pis (types_of types) end))
     (λ p. Formed-pis formed end p)
     (λ path p. let here : length types ≡ 0 + length (types_of types) = omega (arith, length-types_of types) in
-        FailsType-pis formed end 0 path (subst (λ n. FailsTypeFrom kinds (with_context (types_of types) Γ) end n path) here p))
+    FailsType-pis formed end 0 path (subst (λ n. FailsTypeFrom kinds (with_context (types_of types) Γ) end n path) here p))
     r w)

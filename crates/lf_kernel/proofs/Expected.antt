@@ -1,17 +1,17 @@
 -- The shapes of the arguments before a place and of the binders that they are put for.
-use Rattle.std.proofs.Common.{◌≡◌, ℕ, zero, suc, ◌+◌, ◌<◌, ◌≤◌, Option, Some, List, [], ◌∷◌, ◌++◌, length, get_or, take, drop, refl, sym, ap, ap₂, ◌∙◌, subst, subst₂, arith}
-use Rattle.lf_definitions.specs.Syntax.{LfHead, LfTerm, Spine, SimpleType, base, arrows, shape_size, shapes_size, LfType, Context, family, pis, shape_of, shapes_of_types, args_count}
-use Rattle.lf_definitions.specs.Renaming.{Renaming, lifted, next_by, rename_type, rename_context}
-use Rattle.lf_definitions.specs.Shaping.{Scope, under, under_all, ShapedSpine, ShapedType, ShapedList}
-use Rattle.lf_definitions.specs.Substitution.{Replacement, stays, push_all, SubstitutedType, SubstitutedSpine}
-use Rattle.lf_definitions.specs.Typing.{Typing, TypedSpine, shapes_of}
-use Rattle.lf_definitions.specs.ShapedGoals.{ShapedContext, shaped_empty, shaped_entry}
+use Rattle.std.proofs.Common.{◌≡◌, ℕ, zero, suc, ◌<◌, Option, List, [], ◌∷◌, ◌++◌, length, get_or, take, drop, refl, sym, ap, ap₂, ◌∙◌, subst, arith}
+use Rattle.lf_definitions.specs.Syntax.{Spine, SimpleType, base, arrows, shape_size, LfType, Context, shape_of, shapes_of_types, args_count}
+use Rattle.lf_definitions.specs.Renaming.{Renaming, lifted, next_by, rename_context}
+use Rattle.lf_definitions.specs.Shaping.{Scope, under_all, ShapedType, ShapedList}
+use Rattle.lf_definitions.specs.Substitution.{stays, push_all, SubstitutedType}
+use Rattle.lf_definitions.specs.Typing.{Typing, shapes_of}
+use Rattle.lf_definitions.specs.ShapedGoals.{ShapedContext, shaped_entry}
 use Rattle.lf_definitions.proofs.Totality.{Goes, fits_stays}
 use Rattle.lf_definitions.proofs.Telescopes.{Goes-push_all}
 use Rattle.lf_definitions.proofs.Types.{shape_of-rename_type, ShapedType-SubstitutedType}
 use Rattle.lf_definitions.proofs.Typing.{ShapedSpine-TypedSpine}
 use Rattle.lf_terms.specs.declared.term.Term.{Term}
-use Rattle.lf_terms.specs.Terms.{term_of, spine_of}
+use Rattle.lf_terms.specs.Terms.{spine_of}
 use Rattle.lf_terms.specs.declared.ty.Ty.{Ty}
 use Rattle.lf_terms.specs.Types.{type_of, types_of}
 use Rattle.lf_terms.specs.declared.shape.Shape.{Shape}
@@ -21,7 +21,7 @@ use Rattle.lf_terms.proofs.Spines.{args_count-spine_of}
 use Rattle.lf_terms.proofs.ShapeLists.{length-simple_types_of}
 use Rattle.lf_terms.proofs.TypeLists.{length-types_of}
 use Rattle.lf_kernel.specs.Knowing.{binders_scope}
-use Rattle.lf_kernel.proofs.Arguments.{raised, TypedUpTo, types_of-append, split_read}
+use Rattle.lf_kernel.proofs.Arguments.{TypedUpTo, types_of-append, split_read}
 
 pub shapes_of-raised : (ξ : Renaming) (bs : Context) → shapes_of_types (rename_context ξ bs) ≡ shapes_of_types bs
 shapes_of-raised ξ [] = refl
@@ -94,7 +94,7 @@ puts_binder kinds Γ by terms types ss i ty within is shapes_are shaped typed = 
   depth_is = refl;
   keeps = λ h s e. e;
   shaped_sub = prefix_shaped Γ (next_by by) terms types ss i shapes_are typed;
-  shaped = (kinds, binder_shaped kinds (binders_scope Γ by) types ss i ty within is shapes_are shaped)
+  shaped = (kinds, binder_shaped kinds (binders_scope Γ by) types ss i ty within is shapes_are shaped);
 }
 
 pub binder_expected : (kinds : ℕ → Option SimpleType) (Γ : Typing) (by : ℕ) (terms : List Term) (types : List Ty) (ss : List Shape) (i : ℕ) (ty : Ty) (c : LfType) → i < length types → ty ≡ get_or types i ty →

@@ -1,10 +1,10 @@
 -- A family with its arguments.
 use Rattle.std.proofs.Common.{◌≡◌, ◌≢◌, ℕ, zero, suc, ◌≤◌, Option, Some, None, List, [], ◌∷◌, length, reverse, refl, sym, ap, ap₂, ◌∙◌, subst, arith}
 use mathlib.Core.Path.{fun_ext}
-use Rattle.lf_definitions.specs.Syntax.{Spine, LfType, family, Context, LfKind, args_count}
-use Rattle.lf_definitions.specs.Renaming.{lifted, next_by, rename_type, rename_context}
+use Rattle.lf_definitions.specs.Syntax.{Spine, family, Context, LfKind, args_count}
+use Rattle.lf_definitions.specs.Renaming.{next_by, rename_context}
 use Rattle.lf_definitions.specs.Substitution.{stays}
-use Rattle.lf_definitions.specs.Typing.{Typing, TypedSpine, Kinds, Formed, formed_family, kinds_of, shapes_of, shapes_of_kinds}
+use Rattle.lf_definitions.specs.Typing.{Typing, TypedSpine, Kinds, Formed, formed_family, kinds_of, shapes_of_kinds}
 use Rattle.lf_definitions.specs.Failures.{FailsSpine, FailsTypeFrom, fails_family, fails_family_count, fails_family_argument}
 use Rattle.lf_definitions.specs.ShapedGoals.{ShapedTyping, ShapedContext}
 use Rattle.lf_definitions.proofs.Renaming.{same_head, lifted-same_head, rename_type-same_head}

@@ -1,5 +1,5 @@
 -- What is known where a check begins.
-use Rattle.std.proofs.Common.{◌≡◌, ℕ, ◌<◌, List, [], length, Option, Some, None, refl, sym, ap, ◌∙◌, subst, arith}
+use Rattle.std.proofs.Common.{◌≡◌, ℕ, ◌<◌, List, [], Option, Some, None, sym, subst, arith}
 use Rattle.lf_definitions.specs.Syntax.{LfType, Context, LfKind}
 use Rattle.lf_definitions.specs.Shaping.{ShapedType}
 use Rattle.lf_definitions.specs.Typing.{Typing, Kinds, FormedContext, with_context, LfGoal, typed_globals, shapes_of}

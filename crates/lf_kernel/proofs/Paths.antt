@@ -1,7 +1,7 @@
 -- Paths that are kept from their last step to their first.
-use Rattle.std.proofs.Common.{◌≡◌, ℕ, zero, suc, ◌+◌, ◌<◌, Option, Some, None, List, [], ◌∷◌, ◌++◌, length, reverse, replicate, refl, sym, ap, ap₂, ◌∙◌, subst, subst₂, arith, append_assoc, append-nil, add-one}
+use Rattle.std.proofs.Common.{◌≡◌, ℕ, zero, suc, ◌+◌, ◌<◌, Option, Some, None, List, [], ◌∷◌, ◌++◌, length, reverse, replicate, refl, sym, ap, ◌∙◌, subst, subst₂, arith, append_assoc, append-nil, add-one}
 use Rattle.std.proofs.lemmas.List.{reverse-append, replicate_more}
-use Rattle.lf_definitions.specs.Syntax.{LfHead, LfTerm, lam, at, Spine, LfType, pi, pis, Context, lams}
+use Rattle.lf_definitions.specs.Syntax.{LfHead, LfTerm, at, Spine, LfType, pis, Context, lams}
 use Rattle.lf_definitions.specs.Typing.{Typing, with_variable, with_context, Typed, typed_lam}
 use Rattle.lf_definitions.specs.Failures.{FailsTerm, fails_at, fails_in_body}
 use Rattle.lf_kernel.specs.Checks.{Walks}

@@ -1,6 +1,6 @@
 -- A spine by its parts: what each test that fails says, and what is left once all were passed.
-use Rattle.std.proofs.Common.{◌≡◌, ◌≢◌, ℕ, Bool, true, false, MatchBool, Option, Some, None, List, [], ◌∷◌, length, reverse, refl, sym, ap, ◌∙◌, subst, subst₂, arith}
-use Rattle.lf_definitions.specs.Syntax.{LfHead, LfTerm, lam, at, Spine, SimpleType, base, arrows, LfType, family, pis, Context, shape_of, shapes_of_types, args_count}
+use Rattle.std.proofs.Common.{◌≡◌, ◌≢◌, ℕ, Bool, true, false, MatchBool, Option, Some, None, List, [], length, reverse, refl, sym, ap, ◌∙◌, subst, subst₂}
+use Rattle.lf_definitions.specs.Syntax.{LfHead, LfTerm, lam, at, Spine, SimpleType, LfType, family, pis, Context, shapes_of_types, args_count}
 use Rattle.lf_definitions.specs.Renaming.{next_by, lifted_by, rename_type, rename_spine, rename_context}
 use Rattle.lf_definitions.specs.Shaping.{Scope, under_all, ShapedSpine, ShapedType, shaped_family, ShapedList}
 use Rattle.lf_definitions.specs.Substitution.{stays, push_all, SubstitutedSpine}
@@ -14,7 +14,7 @@ use Rattle.lf_definitions.proofs.ShapedGoals.{ShapedTyping-head, ShapedContext-p
 use Rattle.lf_definitions.proofs.Unrenaming.{ShapedType-unrenamed}
 use Rattle.lf_terms.specs.Putting.{putting, Puts, ArgsShaped}
 use Rattle.lf_kernel.specs.declared.head_type.HeadType.{HeadType}
-use Rattle.lf_kernel.specs.Heads.{declared_type, seen_type}
+use Rattle.lf_kernel.specs.Heads.{declared_type}
 use Rattle.lf_kernel.specs.Knowing.{binders_scope}
 use Rattle.lf_kernel.specs.Results.{Gives}
 use Rattle.lf_kernel.proofs.Expected.{shapes_of-raised}
@@ -84,7 +84,7 @@ module _ (Γ : Typing) (h : LfHead) (found : HeadType) (known : ◌≡◌ {A = O
         depth_is = refl;
         keeps = λ k s e. e;
         shaped_sub = subst (ShapedList (shapes_of Γ) ts) (shapes_of-raised (next_by found.raise) found.binders.now ∙ sym shapes_are) (ShapedSpine-TypedSpine typed);
-        shaped = subst (λ l. ShapedSpine (under_all l (binders_scope Γ found.raise)) found.args.now inside.0) (sym shapes_are) inside.1
+        shaped = subst (λ l. ShapedSpine (under_all l (binders_scope Γ found.raise)) found.args.now inside.0) (sym shapes_are) inside.1;
       }
 
 -- what the test of the result says, by its answer

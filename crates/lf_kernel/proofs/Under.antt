@@ -1,5 +1,5 @@
 -- What is known under the binders of a type.
-use Rattle.std.proofs.Common.{◌≡◌, ℕ, List, length, sym, ap, ◌∙◌, subst}
+use Rattle.std.proofs.Common.{◌≡◌, List, length, sym, ap, ◌∙◌, subst}
 use Rattle.lf_definitions.specs.Syntax.{LfType, Context, pis}
 use Rattle.lf_definitions.specs.Shaping.{ShapedType}
 use Rattle.lf_definitions.specs.Typing.{Typing, Kinds, with_context, shapes_of, shapes_of_kinds}

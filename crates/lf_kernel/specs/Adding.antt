@@ -1,6 +1,5 @@
 -- What adding an entry to a signature answers, and what the signature then is.
 use Rattle.std.specs.Prelude.{◌≡◌, ℕ, ◌<◌, List, [], ◌∷◌, ◌++◌, length, Result, Ok, Err, Some}
-use Rattle.lf_definitions.specs.Syntax.{LfType, LfKind}
 use Rattle.lf_definitions.specs.Failures.{FailsType, FailsKind}
 use Rattle.lf_definitions.specs.Signatures.{LfEntry, family_entry, constant_entry, LfSignature, name_of_entry, names_of, family_kinds, constant_types, kinds_in, typing_in, FormedEntry, IsNewName}
 use Rattle.lf_terms.specs.Places.{place_of}

@@ -44,12 +44,7 @@ pub fn add_family(
 }
 
 /// Adds a constant with its type, as `add_family` adds a family, and answers its number among the constants.
-pub fn add_const(
-    alloc: Global,
-    sig: &mut Signature,
-    name: Name,
-    ty: Ty,
-) -> Result<u32, SigFault>
+pub fn add_const(alloc: Global, sig: &mut Signature, name: Name, ty: Ty) -> Result<u32, SigFault>
     ensures { Adds sig.old sig.new (constant_entry name (type_of ty)) result }
 {
     if let Some(place) = sig.order_of(&name) {

@@ -6,7 +6,7 @@ ghost use Rattle.lf_definitions.specs.Typing.{type_at, type_of_metavariable};
 ghost use Rattle.lf_kernel.specs.Heads.{typing_at, seen_type};
 ghost use Rattle.lf_terms.specs.Terms.{head_of};
 
-use crate::scope::{type_of_variable, Scope};
+use crate::scope::{Scope, type_of_variable};
 use lf_terms::{GoalList, Head, NoMemory, Signature, Terms, Tys};
 
 // The type of a head as it stands where the head is declared, and how far the variables outside have risen

@@ -17,3 +17,6 @@ mod walk_type;
 
 pub use answer::Check;
 pub use sig_fault::SigFault;
+
+#[cfg(test)]
+mod tests;

@@ -7,7 +7,7 @@ ghost use Rattle.lf_kernel.specs.Checks.{Checks, ChecksType, ChecksKind};
 ghost use Rattle.lf_terms.specs.Terms.{term_of};
 ghost use Rattle.lf_terms.specs.Types.{type_of};
 
-use crate::answer::{answer_of, Check};
+use crate::answer::{Check, answer_of};
 use crate::scope::Scope;
 use crate::walk::walk_term;
 use crate::walk_type::{walk_binders, walk_type};
@@ -33,14 +33,7 @@ pub fn check(
     sig.is_formed();
     let closed = Scope::Closed;
     let types = ctx.as_slice();
-    let found = walk_term(
-        alloc,
-        sig,
-        metas,
-        &Scope::Under(types, &closed),
-        term,
-        ty,
-    )?;
+    let found = walk_term(alloc, sig, metas, &Scope::Under(types, &closed), term, ty)?;
     Ok(answer_of(found))
 }
 

@@ -14,13 +14,13 @@ ghost use Rattle.lf_terms.specs.Putting.{Puts, ArgsShaped};
 ghost use Rattle.lf_terms.specs.Terms.{head_of, term_of};
 ghost use Rattle.lf_terms.specs.Types.{type_of};
 
-use crate::head_type::{type_of_head, HeadType};
+use crate::head_type::{HeadType, type_of_head};
 use crate::path::{step, under};
-use lf_terms::subst::{put_all, put_type};
 use crate::scope::Scope;
 use crate::stripping::body_under;
 use lf_terms::same::same_terms;
 use lf_terms::shape_of::shapes_of;
+use lf_terms::subst::{put_all, put_type};
 use lf_terms::{GoalList, Head, Ids, NoMemory, Shapes, Signature, Term, Terms, Ty, Tys};
 use std::alloc::Global;
 
@@ -40,17 +40,13 @@ pub fn walk_term<'a>(
 {
     let binders = ty.binders.as_slice();
     let count = binders.len();
+    if count == 0 {
+        return walk_body(alloc, sig, metas, scope, term, ty);
+    }
     match body_under(term, count) {
         Err(depth) => Ok(Some(under(Ids::new(alloc), depth)?)),
         Ok(body) => {
-            match walk_body(
-                alloc,
-                sig,
-                metas,
-                &Scope::Under(binders, scope),
-                body,
-                ty,
-            )? {
+            match walk_body(alloc, sig, metas, &Scope::Under(binders, scope), body, ty)? {
                 None => Ok(None),
                 Some(path) => Ok(Some(under(path, count)?)),
             }

@@ -93,14 +93,6 @@ fn walk_family<'a>(
     }
     let shapes = shapes_of(alloc, binders)?;
     walk_args(
-        alloc,
-        &*sig,
-        &*metas,
-        &*scope,
-        &*binders,
-        &shapes,
-        0,
-        &*args,
-        first,
+        alloc, &*sig, &*metas, &*scope, &*binders, &shapes, 0, &*args, first,
     )
 }

@@ -20,9 +20,9 @@ returns-in-Ok-Ill c =
 
 pub returns-in-Ok : goal.returns-in-Ok
 returns-in-Ok c =
-  let sig = c.args.sig.now in (
-  (place_absent c.args.name (names_of c.args.sig.now) (sym c.order_of.ensures ∙ c.in_default.is), omega (arith, c.size.ensures, c.if-size-ge-LIMIT.false)),
-  subst (ChecksType (kinds_in sig) (typing_in sig [] []) (type_of c.args.ty)) c.in-Ok-Well.field-0-is c.in-Ok-Well.ensures,
-  c.in-Ok.ensures.number ∙ length-constant_names c.args.sig.now,
-  c.in-Ok.ensures.ok,
-)
+    let sig = c.args.sig.now in (
+      (place_absent c.args.name (names_of c.args.sig.now) (sym c.order_of.ensures ∙ c.in_default.is), omega (arith, c.size.ensures, c.if-size-ge-LIMIT.false)),
+      subst (ChecksType (kinds_in sig) (typing_in sig [] []) (type_of c.args.ty)) c.in-Ok-Well.field-0-is c.in-Ok-Well.ensures,
+      c.in-Ok.ensures.number ∙ length-constant_names c.args.sig.now,
+      c.in-Ok.ensures.ok,
+    )

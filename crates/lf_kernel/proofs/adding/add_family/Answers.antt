@@ -1,7 +1,6 @@
 use Rattle.std.proofs.Common.{[], arith, refl, sym, ◌∙◌, subst}
 use Rattle.lf_definitions.specs.Signatures.{names_of, kinds_in, typing_in}
 use Rattle.lf_terms.proofs.NamePlaces.{place_absent}
-use Rattle.lf_terms.specs.Types.{type_of}
 use Rattle.lf_kernel.specs.Checks.{ChecksKind}
 use Rattle.lf_kernel.proofs.Counts.{length-family_names}
 use Rattle.lf_kernel.proofs.adding.add_family.Goals as goal
@@ -20,9 +19,9 @@ returns-in-Ok-Ill c =
 
 pub returns-in-Ok : goal.returns-in-Ok
 returns-in-Ok c =
-  let sig = c.args.sig.now in (
-  (place_absent c.args.name (names_of c.args.sig.now) (sym c.order_of.ensures ∙ c.in_default.is), omega (arith, c.size.ensures, c.if-size-ge-LIMIT.false)),
-  subst (ChecksKind (kinds_in sig) (typing_in sig [] []) c.args.kind.binders) c.in-Ok-Well.field-0-is c.in-Ok-Well.ensures,
-  c.in-Ok.ensures.number ∙ length-family_names c.args.sig.now,
-  c.in-Ok.ensures.ok,
-)
+    let sig = c.args.sig.now in (
+      (place_absent c.args.name (names_of c.args.sig.now) (sym c.order_of.ensures ∙ c.in_default.is), omega (arith, c.size.ensures, c.if-size-ge-LIMIT.false)),
+      subst (ChecksKind (kinds_in sig) (typing_in sig [] []) c.args.kind.binders) c.in-Ok-Well.field-0-is c.in-Ok-Well.ensures,
+      c.in-Ok.ensures.number ∙ length-family_names c.args.sig.now,
+      c.in-Ok.ensures.ok,
+    )

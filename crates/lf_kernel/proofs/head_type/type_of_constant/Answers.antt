@@ -1,4 +1,4 @@
-use Rattle.std.proofs.Common.{arith, sym, ap, ◌∙◌, Some, length}
+use Rattle.std.proofs.Common.{arith, sym, ap, ◌∙◌, Some}
 use Rattle.lf_definitions.specs.Signatures.{constant_types}
 use Rattle.lf_definitions.proofs.Variables.{rename_type-next_by_zero}
 use Rattle.lf_terms.specs.Types.{type_of}

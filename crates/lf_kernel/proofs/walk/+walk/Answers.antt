@@ -1,19 +1,18 @@
-use Rattle.std.proofs.Common.{◌≡◌, ◌+◌, ◌<◌, arith, refl, sym, ap, ◌∙◌, subst, subst₂, List, ◌∷◌, length, reverse}
-use Rattle.lf_definitions.specs.Syntax.{family, args_count, at, lam, lams, shapes_of_types, term_size, spine_size}
+use Rattle.std.proofs.Common.{◌≡◌, ◌+◌, arith, sym, ap, ◌∙◌, subst, subst₂, ◌∷◌, length, reverse}
+use Rattle.lf_definitions.specs.Syntax.{family, term_size, spine_size}
 use Rattle.lf_definitions.specs.Renaming.{next_by, rename_context}
-use Rattle.lf_definitions.specs.Shaping.{ShapedType}
 use Rattle.lf_definitions.specs.Substitution.{stays}
 use Rattle.lf_definitions.specs.Typing.{Typed, TypedSpine, with_context}
 use Rattle.lf_definitions.specs.Failures.{FailsTerm, FailsSpine}
 use Rattle.lf_definitions.specs.Signatures.{kinds_in}
 use Rattle.lf_definitions.specs.ShapedGoals.{ShapedContext, kind_shapes_in}
-use Rattle.lf_terms.specs.Terms.{head_of, term_of, spine_of}
+use Rattle.lf_terms.specs.Terms.{head_of, term_of}
 use Rattle.lf_terms.specs.Types.{type_of, types_of}
 use Rattle.lf_terms.proofs.Spines.{item_size}
 use Rattle.lf_terms.proofs.Abstractions.{term_size-lams}
 use Rattle.lf_kernel.specs.Heads.{typing_at, seen_type}
 use Rattle.lf_kernel.specs.Knowing.{binders_scope}
-use Rattle.lf_kernel.proofs.Arguments.{raised, TypedUpTo, typed_start, typed_more, typed_end, argument_fails, length-take_within}
+use Rattle.lf_kernel.proofs.Arguments.{typed_start, typed_more, typed_end, argument_fails, length-take_within}
 use Rattle.lf_kernel.proofs.Expected.{terms_and_types, shapes_and_types, shapes_of_read, puts_binder, binder_expected}
 use Rattle.lf_kernel.proofs.Spines.{lam_fails, head_fails, count_fails, argument_of_spine_fails, binders_shaped, puts_result, spine_is_typed, result_fails, gives_it, gives_another}
 use Rattle.lf_kernel.proofs.Paths.{reverse-step, well, ill, typed_whole, fails_early, fails_under}
@@ -57,9 +56,11 @@ walk_args-walk_term-requires t c =
     let lengths = terms_and_types terms types a.args.now a.binders.now c.as_slice-terms.ensures c.as_slice-types.ensures c.requires.count in
     let shapes = shapes_of_read c.as_slice-shapes.result.now types a.shapes.now a.binders.now c.as_slice-shapes.ensures c.as_slice-types.ensures c.requires.shapes in (
       omega (arith, c.decreases, ap spine_size c.as_slice-terms.ensures, item_size terms c.loop-i.i c.index-terms-i.result c.loop-i-test.true c.index-terms-i.is),
-      (c.requires.typing,
-      binder_expected (kind_shapes_in a.sig.now) Γ a.raise terms types c.as_slice-shapes.result.now c.loop-i.i c.index-types-i.result (type_of c.in_ok-ty.ty) (omega (arith, c.loop-i-test.true)) c.index-types-i.is shapes
-      (subst (ShapedContext (kind_shapes_in a.sig.now) (binders_scope Γ a.raise)) (sym c.as_slice-types.ensures) c.requires.shaped) c.loop-i.invariant c.in_ok-ty.ensures),
+      (
+        c.requires.typing,
+        binder_expected (kind_shapes_in a.sig.now) Γ a.raise terms types c.as_slice-shapes.result.now c.loop-i.i c.index-types-i.result (type_of c.in_ok-ty.ty) (omega (arith, c.loop-i-test.true)) c.index-types-i.is shapes
+            (subst (ShapedContext (kind_shapes_in a.sig.now) (binders_scope Γ a.raise)) (sym c.as_slice-types.ensures) c.requires.shaped) c.loop-i.invariant c.in_ok-ty.ensures,
+      ),
     )
 
 pub walk_args-returns-in-Some : goal.walk_args-returns-in-Some
@@ -124,9 +125,13 @@ walk_spine-walk_args-requires t c =
     let Γ = typing_at a.sig.now a.metas.now a.scope.now in
     let h = head_of a.head in (
       omega (arith, c.decreases),
-      (c.requires.typing,
-      (binders_shaped Γ h c.in-Some.found (subst (λ o. seen_type o ≡ Γ h) c.in-Some.is c.in_ok-found.ensures) (kinds_in a.sig.now) c.requires.typing,
-      (c.in_ok-shapes.ensures, sym c.len.ensures ∙ c.if-len.false ∙ c.len-2.ensures))),
+      (
+        c.requires.typing,
+        (
+          binders_shaped Γ h c.in-Some.found (subst (λ o. seen_type o ≡ Γ h) c.in-Some.is c.in_ok-found.ensures) (kinds_in a.sig.now) c.requires.typing,
+          (c.in_ok-shapes.ensures, sym c.len.ensures ∙ c.if-len.false ∙ c.len-2.ensures),
+        ),
+      ),
     )
 
 pub walk_spine-returns-in-Some-2 : goal.walk_spine-returns-in-Some-2
@@ -172,8 +177,8 @@ walk_spine-returns t c =
     let given = gives_another found a.args.now (family a.ty.now.family a.ty.now.args) c.in_ok-gives-in-None.field-0 c.if-branch.false c.in_ok-gives-in-None.ensures in
     result_fails Γ h found (subst (λ o. seen_type o ≡ Γ h) c.in-Some.is c.in_ok-found.ensures) a.args.now given.0 a.ty.now.args a.ty.now.family c.new-else-branch.result typed given.1 given.2 c.new-else-branch.ensures
 
-pub walk_term-walk_body-requires : goal.walk_term-walk_body-requires
-walk_term-walk_body-requires t c =
+pub walk_term-walk_body-requires-in-Ok : goal.walk_term-walk_body-requires-in-Ok
+walk_term-walk_body-requires-in-Ok t c =
     let a = c.args in
     let Γ = typing_at a.sig.now a.metas.now a.scope.now in (
       omega (arith, c.decreases, ap term_size c.in-Ok.ensures, term_size-lams (length c.as_slice-binders.result.now) (term_of c.in-Ok.body.now)),

@@ -1,4 +1,4 @@
-use Rattle.std.proofs.Common.{arith, sym, ap, ◌∙◌, subst, List, [], ◌∷◌, length, reverse, take}
+use Rattle.std.proofs.Common.{arith, sym, ap, subst, reverse, take}
 use Rattle.std.proofs.lemmas.Result.{IfOk-weaker}
 use Rattle.lf_definitions.specs.Syntax.{family, pis, types_size}
 use Rattle.lf_definitions.specs.Typing.{with_context, Formed, FormedContext, formed_empty}
@@ -10,7 +10,7 @@ use Rattle.lf_terms.specs.TypeSizes.{binders_size}
 use Rattle.lf_terms.proofs.TypeLists.{item_size}
 use Rattle.lf_kernel.specs.Heads.{typing_at}
 use Rattle.lf_kernel.proofs.Paths.{reverse-step, well, ill}
-use Rattle.lf_kernel.proofs.Binders.{formed_more, binder_fails, formed_end, FailsType-binders, type_walk}
+use Rattle.lf_kernel.proofs.Binders.{formed_more, binder_fails, FailsType-binders, type_walk}
 use Rattle.lf_kernel.proofs.walk_type.+walk_type.Goals as goal
 
 pub walk_binders-loop-i-init : goal.walk_binders-loop-i-init
