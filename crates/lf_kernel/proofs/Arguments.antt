@@ -1,12 +1,11 @@
 -- The arguments of a spine against binders that rise: one more is typed, or one fails.
-use Rattle.std.proofs.Common.{◌≡◌, ℕ, zero, suc, ◌+◌, ◌<◌, ◌≤◌, List, [], ◌∷◌, ◌++◌, length, get_or, take, drop, refl, sym, ap, ap₂, ◌∙◌, subst, subst₂, arith, add-one, take_all}
-use Rattle.lf_definitions.specs.Syntax.{LfHead, LfTerm, Spine, no_args, arg, LfType, Context, args_count, joined}
-use Rattle.lf_definitions.specs.Renaming.{Renaming, lifted, lifted_by, next_by, rename_type, rename_context}
+use Rattle.std.proofs.Common.{◌≡◌, ℕ, zero, suc, ◌+◌, ◌<◌, ◌≤◌, List, [], ◌∷◌, ◌++◌, length, get_or, take, drop, refl, sym, ap, ◌∙◌, subst, subst₂, arith, take_all}
+use Rattle.lf_definitions.specs.Syntax.{arg, LfType, Context, joined}
+use Rattle.lf_definitions.specs.Renaming.{Renaming, lifted, lifted_by, rename_type, rename_context}
 use Rattle.lf_definitions.specs.Substitution.{stays, push_all, SubstitutedType}
 use Rattle.lf_definitions.specs.Typing.{Typing, Typed, TypedSpine, typed_none}
 use Rattle.lf_definitions.specs.Failures.{FailsTerm, FailsSpine}
-use Rattle.lf_definitions.proofs.Weakening.{args_count-TypedSpine}
-use Rattle.lf_definitions.proofs.TypedSpines.{TypedSpine-more, FailsSpine-at, SubstitutedType-renamed_outside, rename_context-append, length-rename_context}
+use Rattle.lf_definitions.proofs.TypedSpines.{TypedSpine-more, FailsSpine-at, SubstitutedType-renamed_outside, rename_context-append}
 use Rattle.lf_terms.specs.declared.term.Term.{Term}
 use Rattle.lf_terms.specs.Terms.{term_of, spine_of}
 use Rattle.lf_terms.specs.declared.ty.Ty.{Ty}

@@ -1,12 +1,14 @@
 -- Binders that are well formed one by one, and where one of them fails.
-use Rattle.std.proofs.Common.{◌≡◌, ℕ, zero, suc, ◌+◌, ◌<◌, ◌≤◌, List, [], ◌∷◌, ◌++◌, length, get_or, take, drop, refl, sym, ap, ◌∙◌, subst, subst₂, arith, take_all}
-use Rattle.lf_definitions.specs.Syntax.{LfType, pi, pis, Context}
+use Rattle.std.proofs.Common.{◌≡◌, ℕ, suc, ◌+◌, ◌<◌, ◌≤◌, Option, List, [], ◌∷◌, ◌++◌, length, get_or, take, drop, sym, ap, ◌∙◌, subst, subst₂, arith, take_all}
+use Rattle.lf_definitions.specs.Syntax.{LfType, pis, Context}
 use Rattle.lf_definitions.specs.Typing.{Typing, with_variable, with_context, Kinds, Formed, formed_pi, FormedContext, formed_empty, formed_entry}
 use Rattle.lf_definitions.specs.Failures.{FailsType, FailsTypeFrom, fails_binder, fails_rest, FailsContextFrom, fails_entry, fails_entries}
 use Rattle.lf_terms.specs.declared.ty.Ty.{Ty}
 use Rattle.lf_terms.specs.Types.{type_of, types_of}
 use Rattle.lf_terms.proofs.ShapeLists.{take_read}
 use Rattle.lf_terms.proofs.TypeLists.{length-types_of}
+use Rattle.lf_kernel.specs.Checks.{Walks}
+use Rattle.lf_kernel.proofs.Paths.{walks_map}
 use Rattle.lf_kernel.proofs.Arguments.{types_of-append, length-take_within, split_read}
 
 FormedContext-more : {kinds : Kinds} {Γ : Typing} {ctx : Context} → FormedContext kinds Γ ctx → (a : LfType) → Formed kinds (with_context ctx Γ) a → FormedContext kinds Γ (ctx ++ a ∷ [])
@@ -60,3 +62,14 @@ binder_fails kinds Γ types i ty path within is before p =
 
 pub formed_end : (kinds : Kinds) (Γ : Typing) (types : List Ty) (i : ℕ) → length types ≤ i → FormedUpTo kinds Γ types i → FormedContext kinds Γ (types_of types)
 formed_end kinds Γ types i past p = subst (λ ts. FormedContext kinds Γ (types_of ts)) (take_all i types past) p
+
+-- a walk over what is under the binders is one over the type
+pub type_walk : (kinds : Kinds) (Γ : Typing) (types : List Ty) (binders : Context) (end : LfType) → types_of types ≡ binders → FormedContext kinds Γ (types_of types) → (r : Option (List ℕ)) →
+    Walks (Formed kinds (with_context (types_of types) Γ) end) (FailsTypeFrom kinds (with_context (types_of types) Γ) end (length types)) r → Walks (Formed kinds Γ (pis binders end)) (FailsType kinds Γ (pis binders end)) r
+type_walk kinds Γ types binders end are formed r w =
+    subst (λ bs. Walks (Formed kinds Γ (pis bs end)) (FailsType kinds Γ (pis bs end)) r) are
+    (walks_map (Formed kinds (with_context (types_of types) Γ) end) (Formed kinds Γ (pis (types_of types) end)) (FailsTypeFrom kinds (with_context (types_of types) Γ) end (length types)) (FailsType kinds Γ (pis (types_of types) end))
+    (λ p. Formed-pis formed end p)
+    (λ path p. let here : length types ≡ 0 + length (types_of types) = omega (arith, length-types_of types) in
+    FailsType-pis formed end 0 path (subst (λ n. FailsTypeFrom kinds (with_context (types_of types) Γ) end n path) here p))
+    r w)

@@ -3,3 +3,9 @@ pub mod Arguments
 pub mod Paths
 pub mod Binders
 pub mod Expected
+pub mod Heads
+pub mod Spines
+pub mod Under
+pub mod Families
+pub mod Openings
+pub mod Counts

@@ -1,7 +1,7 @@
 -- Paths that are kept from their last step to their first.
-use Rattle.std.proofs.Common.{◌≡◌, ℕ, zero, suc, ◌+◌, ◌<◌, List, [], ◌∷◌, ◌++◌, length, reverse, replicate, refl, sym, ap, ap₂, ◌∙◌, subst, subst₂, arith, append_assoc, append-nil, add-one}
+use Rattle.std.proofs.Common.{◌≡◌, ℕ, zero, suc, ◌+◌, ◌<◌, Option, Some, None, List, [], ◌∷◌, ◌++◌, length, reverse, replicate, refl, sym, ap, ◌∙◌, subst, subst₂, arith, append_assoc, append-nil, add-one}
 use Rattle.std.proofs.lemmas.List.{reverse-append, replicate_more}
-use Rattle.lf_definitions.specs.Syntax.{LfHead, LfTerm, lam, at, Spine, LfType, pi, pis, Context, lams}
+use Rattle.lf_definitions.specs.Syntax.{LfHead, LfTerm, at, Spine, LfType, pis, Context, lams}
 use Rattle.lf_definitions.specs.Typing.{Typing, with_variable, with_context, Typed, typed_lam}
 use Rattle.lf_definitions.specs.Failures.{FailsTerm, fails_at, fails_in_body}
 use Rattle.lf_kernel.specs.Checks.{Walks}
@@ -52,3 +52,18 @@ fails_early bs Γ t end count depth path longer (less, h, ts, t_is) count_is pat
 pub zero_more : (path before after : List ℕ) (k : ℕ) → before ≡ path ++ replicate k 0 → after ≡ before ++ 0 ∷ [] → after ≡ path ++ replicate (k + 1) 0
 zero_more path before after k is pushed =
     pushed ∙ ap (λ p. p ++ 0 ∷ []) is ∙ append_assoc path (replicate k 0) (0 ∷ []) ∙ ap (λ zeros. path ++ zeros) (replicate_more k 0)
+
+pub typed_whole : (bs : Context) (Γ : Typing) (t b : LfTerm) (end : LfType) (count : ℕ) → t ≡ lams count b → count ≡ length bs → Typed (with_context bs Γ) b end → Typed Γ t (pis bs end)
+typed_whole bs Γ t b end count t_is count_is p =
+    subst (λ x. Typed Γ x (pis bs end)) (ap (λ n. lams n b) (sym count_is) ∙ sym t_is) (typed_under bs Γ b end p)
+
+-- what a walk answers, by its answer
+pub well : (holds : Type 0) (fails : List ℕ → Type 0) (r : Option (List ℕ)) → r ≡ None → Walks holds fails r → holds
+well holds fails r is w = subst (Walks holds fails) is w
+
+pub ill : (holds : Type 0) (fails : List ℕ → Type 0) (r : Option (List ℕ)) (path : List ℕ) → r ≡ Some path → Walks holds fails r → fails (reverse path)
+ill holds fails r path is w = subst (Walks holds fails) is w
+
+pub walks_map : (holds other : Type 0) (fails others : List ℕ → Type 0) → (holds → other) → ((path : List ℕ) → fails path → others path) → (r : Option (List ℕ)) → Walks holds fails r → Walks other others r
+walks_map holds other fails others f g None w = f w
+walks_map holds other fails others f g (Some path) w = g (reverse path) w

@@ -85,6 +85,13 @@ impl Signature {
         let _ = &self.order;
     }
 
+    /// A law: a signature has at most 65,535 entries. It does nothing.
+    pub fn has_few_entries(&self)
+        ensures { length self.now < 65536 }
+    {
+        let _ = &self.order;
+    }
+
     /// How many entries there are.
     pub fn size(&self) -> u32
         ensures { result ≡ length self.now }

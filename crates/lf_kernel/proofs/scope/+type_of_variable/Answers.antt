@@ -1,4 +1,4 @@
-use Rattle.std.proofs.Common.{arith, sym, ap, ◌∙◌}
+use Rattle.std.proofs.Common.{sym, ap, ◌∙◌}
 use Rattle.lf_definitions.specs.Syntax.{bound}
 use Rattle.lf_kernel.specs.Scopes.{typing_under, no_heads}
 use Rattle.lf_kernel.proofs.Scopes.{variable_inside, variable_outside}

@@ -1,0 +1,64 @@
+-- The types of heads at a place.
+use Rattle.std.proofs.Common.{◌≡◌, ℕ, zero, suc, ◌+◌, ◌<◌, ◌≤◌, Option, Some, None, option_map, Bool, true, false, T, if◌then◌else◌, nat_eq, List, [], ◌∷◌, length, get_or, map, drop, refl, sym, ap, ◌∙◌, arith}
+use Rattle.std.proofs.lemmas.List.{drop_more}
+use Rattle.std.proofs.Math.Facts.{yes_eqb}
+use Rattle.lf_definitions.specs.Syntax.{bound, constant, metavariable, LfType, Context}
+use Rattle.lf_definitions.specs.Renaming.{next_by, rename_type, raise_type}
+use Rattle.lf_definitions.specs.Typing.{Typing, with_variable, with_context, LfGoal, goal_type, type_at, type_of_metavariable, typed_globals}
+use Rattle.lf_definitions.proofs.Variables.{rename_type-next_by_zero, with_context-constant, with_context-metavariable}
+use Rattle.lf_terms.specs.declared.goal.Goal.{Goal}
+use Rattle.lf_terms.specs.Targets.{goal_of}
+use Rattle.lf_terms.specs.Types.{types_of}
+use Rattle.lf_kernel.specs.declared.scope.Scope.{Scope}
+use Rattle.lf_kernel.specs.declared.scope.Scope.TheVariants.{Closed, Under'}
+use Rattle.lf_kernel.specs.Scopes.{typing_under, no_heads}
+
+pub no_constant : (types : List LfType) (k : ℕ) → length types ≤ k → ◌≡◌ {A = Option LfType} None (type_at types k)
+no_constant [] k past = refl
+no_constant (a ∷ types) zero past = absurd (omega arith)
+no_constant (a ∷ types) (suc k) past = no_constant types k (omega arith)
+
+-- Variables don't depend on what is known of other heads.
+abbrev SameVariables : Typing → Typing → Type 0
+SameVariables Γ Δ = (n : ℕ) → Γ (bound n) ≡ Δ (bound n)
+
+SameVariables-with_variable : (Γ Δ : Typing) (a : LfType) → SameVariables Γ Δ → SameVariables (with_variable a Γ) (with_variable a Δ)
+SameVariables-with_variable Γ Δ a same zero = refl
+SameVariables-with_variable Γ Δ a same (suc n) = ap (option_map raise_type) (same n)
+
+SameVariables-with_context : (ctx : Context) (Γ Δ : Typing) → SameVariables Γ Δ → SameVariables (with_context ctx Γ) (with_context ctx Δ)
+SameVariables-with_context [] Γ Δ same = same
+SameVariables-with_context (a ∷ ctx) Γ Δ same = SameVariables-with_context ctx (with_variable a Γ) (with_variable a Δ) (SameVariables-with_variable Γ Δ a same)
+
+same_variables : (scope : Scope) (types : List LfType) (goals : List LfGoal) → SameVariables (typing_under no_heads scope) (typing_under (typed_globals types goals) scope)
+same_variables Closed types goals = λ n. refl
+same_variables (Under' binders p outside) types goals =
+    SameVariables-with_context (types_of binders.now) (typing_under no_heads outside) (typing_under (typed_globals types goals) outside) (same_variables outside types goals)
+
+pub typing_under-bound : (scope : Scope) (types : List LfType) (goals : List LfGoal) (n : ℕ) → typing_under no_heads scope (bound n) ≡ typing_under (typed_globals types goals) scope (bound n)
+typing_under-bound scope types goals n = same_variables scope types goals n
+
+pub typing_under-constant : (scope : Scope) (Γ : Typing) (c : ℕ) → typing_under Γ scope (constant c) ≡ Γ (constant c)
+typing_under-constant Closed Γ c = refl
+typing_under-constant (Under' binders p outside) Γ c = with_context-constant (types_of binders.now) (typing_under Γ outside) c ∙ typing_under-constant outside Γ c
+
+pub typing_under-metavariable : (scope : Scope) (Γ : Typing) (g : ℕ) → typing_under Γ scope (metavariable g) ≡ Γ (metavariable g)
+typing_under-metavariable Closed Γ g = refl
+typing_under-metavariable (Under' binders p outside) Γ g = with_context-metavariable (types_of binders.now) (typing_under Γ outside) g ∙ typing_under-metavariable outside Γ g
+
+-- goals, in a loop
+abbrev pub in_rest : List Goal → ℕ → ℕ → Option LfType
+in_rest items i g = type_of_metavariable (map goal_of (drop i items)) g
+
+pub goal_more : (items : List Goal) (i g : ℕ) (m : Goal) → i < length items → m ≡ get_or items i m →
+    in_rest items i g ≡ (if nat_eq m.id g then Some (goal_type (goal_of m)) else in_rest items (i + 1) g)
+goal_more items i g m within is =
+    ap (λ l. type_of_metavariable (map goal_of l) g) (drop_more items i m within ∙ ap (λ x. x ∷ drop (i + 1) items) (sym is))
+
+pub goal_found : (items : List Goal) (i g : ℕ) (m : Goal) (whole : Option LfType) → i < length items → m ≡ get_or items i m → m.id ≡ g → in_rest items i g ≡ whole → Some (rename_type (next_by 0) (goal_type (goal_of m))) ≡ whole
+goal_found items i g m whole within is same before =
+    ap Some (rename_type-next_by_zero (goal_type (goal_of m))) ∙ here (nat_eq m.id g) (yes_eqb same) ∙ sym (goal_more items i g m within is) ∙ before
+  where
+    here : (b : Bool) → T b → ◌≡◌ {A = Option LfType} (Some (goal_type (goal_of m))) (if b then Some (goal_type (goal_of m)) else in_rest items (i + 1) g)
+    here true e = refl
+    here false e = absurd e

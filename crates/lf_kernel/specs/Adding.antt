@@ -1,0 +1,29 @@
+-- What adding an entry to a signature answers, and what the signature then is.
+use Rattle.std.specs.Prelude.{◌≡◌, ℕ, ◌<◌, List, [], ◌∷◌, ◌++◌, length, Result, Ok, Err, Some}
+use Rattle.lf_definitions.specs.Failures.{FailsType, FailsKind}
+use Rattle.lf_definitions.specs.Signatures.{LfEntry, family_entry, constant_entry, LfSignature, name_of_entry, names_of, family_kinds, constant_types, kinds_in, typing_in, FormedEntry, IsNewName}
+use Rattle.lf_terms.specs.Places.{place_of}
+use Rattle.lf_kernel.specs.declared.sig_fault.SigFault.{SigFault}
+use Rattle.lf_kernel.specs.declared.sig_fault.SigFault.TheVariants.{Taken, Full, Ill, NoMemory}
+
+-- how many families or constants stand before the entry, which is its number
+abbrev pub number_of : LfSignature → LfEntry → ℕ
+number_of sig (family_entry name kind) = length (family_kinds sig)
+number_of sig (constant_entry name type) = length (constant_types sig)
+
+-- An entry fails to be well formed over a signature at the path at which its kind or its type does.
+abbrev pub FailsEntry : LfSignature → LfEntry → List ℕ → Type 0
+FailsEntry sig (family_entry name kind) path = FailsKind (kinds_in sig) (typing_in sig [] []) kind path
+FailsEntry sig (constant_entry name type) path = FailsType (kinds_in sig) (typing_in sig [] []) type path
+
+-- The name is new and there is room for one more.
+abbrev pub HasRoom : LfSignature → LfEntry → Type 0
+HasRoom sig entry = IsNewName sig (name_of_entry entry) × (length sig < 65535)
+
+-- An entry is added under its number where it is well formed, its name is new and there is room. Otherwise it isn't, and the signature is as it was.
+abbrev pub Adds : LfSignature → LfSignature → LfEntry → Result ℕ SigFault → Type 0
+Adds before after entry (Ok number) = HasRoom before entry × FormedEntry before entry × (number ≡ number_of before entry) × (after ≡ before ++ entry ∷ [])
+Adds before after entry (Err (Taken place)) = (place_of (names_of before) (name_of_entry entry) ≡ Some place) × (after ≡ before)
+Adds before after entry (Err Full) = IsNewName before (name_of_entry entry) × (length before ≡ 65535) × (after ≡ before)
+Adds before after entry (Err (Ill path)) = HasRoom before entry × FailsEntry before entry path × (after ≡ before)
+Adds before after entry (Err (NoMemory name)) = (name ≡ name_of_entry entry) × (after ≡ before)

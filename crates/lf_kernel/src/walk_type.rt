@@ -1,0 +1,98 @@
+//! The walk over a type or a kind: from left to right, down to the first failure.
+
+ghost use Rattle.std.specs.Prelude.{IfOk};
+ghost use Rattle.lf_definitions.specs.Syntax.{family};
+ghost use Rattle.lf_definitions.specs.Typing.{Formed, FormedContext};
+ghost use Rattle.lf_definitions.specs.Failures.{FailsType, FailsTypeFrom, FailsContextFrom};
+ghost use Rattle.lf_definitions.specs.Signatures.{kinds_in};
+ghost use Rattle.lf_kernel.specs.Checks.{Walks};
+ghost use Rattle.lf_kernel.specs.Heads.{typing_at};
+ghost use Rattle.lf_kernel.specs.Knowing.{ShapedAt};
+ghost use Rattle.lf_terms.specs.Types.{type_of, types_of};
+
+use crate::path::step;
+use crate::scope::Scope;
+use crate::walk::walk_args;
+use lf_terms::shape_of::shapes_of;
+use lf_terms::{GoalList, Ids, NoMemory, Signature, Terms, Ty};
+use std::alloc::Global;
+
+// Whether binders are well formed, each in the scope of those before it, or the path at which one fails.
+#[cycle(walk_type)]
+pub fn walk_binders<'a>(
+    alloc: Global,
+    sig: &'a Signature,
+    metas: &'a GoalList,
+    scope: &'a Scope<'a>,
+    binders: &'a [Ty],
+) -> Result<Option<Ids>, NoMemory>
+    requires { ShapedAt sig.now metas.now scope.now }
+    ensures { IfOk result (λ r. Walks (FormedContext (kinds_in sig.now) (typing_at sig.now metas.now scope.now) (types_of binders.now)) (FailsContextFrom (kinds_in sig.now) (typing_at sig.now metas.now scope.now) (types_of binders.now) 0) r) }
+{
+    for i in 0..binders.len() {
+        match walk_type(
+            alloc,
+            sig,
+            metas,
+            &Scope::Under(&binders[..i], scope),
+            &binders[i],
+        )? {
+            None => {}
+            Some(path) => return Ok(Some(step(path, i)?)),
+        }
+    }
+    Ok(None)
+}
+
+// The same for a type: its binders, and then its family with the arguments.
+#[cycle(walk_type)]
+pub fn walk_type<'a>(
+    alloc: Global,
+    sig: &'a Signature,
+    metas: &'a GoalList,
+    scope: &'a Scope<'a>,
+    ty: &'a Ty,
+) -> Result<Option<Ids>, NoMemory>
+    requires { ShapedAt sig.now metas.now scope.now }
+    ensures { IfOk result (λ r. Walks (Formed (kinds_in sig.now) (typing_at sig.now metas.now scope.now) (type_of ty.now)) (FailsType (kinds_in sig.now) (typing_at sig.now metas.now scope.now) (type_of ty.now)) r) }
+{
+    let binders = ty.binders.as_slice();
+    match walk_binders(alloc, sig, metas, scope, binders)? {
+        Some(path) => Ok(Some(path)),
+        None => walk_family(
+            alloc,
+            sig,
+            metas,
+            &Scope::Under(binders, scope),
+            ty.family,
+            &ty.args,
+            binders.len(),
+        ),
+    }
+}
+
+// The same for a family with arguments, the first of which is this child.
+fn walk_family<'a>(
+    alloc: Global,
+    sig: &'a Signature,
+    metas: &'a GoalList,
+    scope: &'a Scope<'a>,
+    number: u32,
+    args: &'a Terms,
+    first: usize,
+) -> Result<Option<Ids>, NoMemory>
+    requires { ShapedAt sig.now metas.now scope.now }
+    ensures { IfOk result (λ r. Walks (Formed (kinds_in sig.now) (typing_at sig.now metas.now scope.now) (family number args.now)) (FailsTypeFrom (kinds_in sig.now) (typing_at sig.now metas.now scope.now) (family number args.now) first) r) }
+{
+    if number >= sig.families() {
+        return Ok(Some(Ids::new(alloc)));
+    }
+    let binders = &sig.kind_of(number).binders;
+    if args.len() != binders.len() {
+        return Ok(Some(Ids::new(alloc)));
+    }
+    let shapes = shapes_of(alloc, binders)?;
+    walk_args(
+        alloc, &*sig, &*metas, &*scope, &*binders, &shapes, 0, &*args, first,
+    )
+}
