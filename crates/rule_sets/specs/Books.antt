@@ -30,3 +30,7 @@ first_book = record { rules = assumption_rule ∷ hyps_rule ∷ []; lists = [] }
 abbrev pub list_of : List Listed → ℕ → Option (List ℕ)
 list_of [] f = None
 list_of (listed ∷ rest) f = if nat_eq listed.of_family f then Some listed.constants else list_of rest f
+
+-- an entry of a table from families to constructors
+abbrev pub listed : ℕ × List ℕ → Listed
+listed e = record { of_family = e.0; constants = e.1 }

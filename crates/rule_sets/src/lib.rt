@@ -4,6 +4,8 @@
 //! one.
 #![tactic(auto)]
 
+pub mod book;
 pub mod rule;
 
+pub use book::RuleBook;
 pub use rule::{Builder, CtorFault, Phase, Rule, RuleFault, Sets};
