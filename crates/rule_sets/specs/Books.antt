@@ -1,5 +1,5 @@
 -- Rule books: rules in the order in which they were added, and the constructors that are listed for families.
-use Rattle.std.specs.Prelude.{◌≡◌, ℕ, List, [], ◌∷◌, codes, Option, Some, None, if◌then◌else◌, nat_eq, pos, negsuc}
+use Rattle.std.specs.Prelude.{ℕ, List, [], ◌∷◌, codes, Option, Some, None, if◌then◌else◌, nat_eq, negsuc}
 use Rattle.rule_sets.specs.declared.rule.Phase.TheVariants.{Safe, Unsafe}
 use Rattle.rule_sets.specs.declared.rule.Builder.TheVariants.{Assumption, Hyps}
 use Rattle.rule_sets.specs.declared.rule.Rule.{Rule}

@@ -2,3 +2,4 @@ pub mod Books
 pub mod Refusals
 pub mod Orders
 pub mod Shown
+pub mod Tests

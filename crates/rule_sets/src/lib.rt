@@ -5,6 +5,8 @@
 #![tactic(auto)]
 
 pub mod book;
+mod faults;
+mod lists;
 pub mod rule;
 
 pub use book::RuleBook;
