@@ -4,3 +4,5 @@ pub mod Premises
 pub mod NamePlaces
 pub mod Tested
 pub mod Constructors
+pub mod Turns
+pub mod Sets

@@ -3,3 +3,4 @@ pub mod Refusals
 pub mod Orders
 pub mod Shown
 pub mod Tests
+pub mod Turns

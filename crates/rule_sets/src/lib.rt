@@ -7,7 +7,9 @@
 pub mod book;
 mod faults;
 mod lists;
+pub mod order;
 pub mod rule;
 
 pub use book::RuleBook;
+pub use order::Ordered;
 pub use rule::{Builder, CtorFault, Phase, Rule, RuleFault, Sets};
