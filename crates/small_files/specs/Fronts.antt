@@ -10,22 +10,22 @@ abbrev pub token_at : List Token → ℕ → Token
 token_at tokens place = slice_index_or tokens place (record { mark = Word; start = 0; end = 0 })
 
 abbrev pub FamilyFront : List ℕ → List Token → Type 0
-FamilyFront bytes ts = IsFamilyOfKindType bytes (token_at ts 0) (token_at ts 1) (token_at ts 2) (token_at ts 3) (token_at ts 4)
+FamilyFront bytes tokens = IsFamilyOfKindType bytes (token_at tokens 0) (token_at tokens 1) (token_at tokens 2) (token_at tokens 3) (token_at tokens 4)
 
 abbrev pub TheoremFront : List ℕ → List Token → Type 0
-TheoremFront bytes ts = IsTheorem bytes (token_at ts 0) (token_at ts 1) (token_at ts 2) (token_at ts 3) (token_at ts 4)
+TheoremFront bytes tokens = IsTheorem bytes (token_at tokens 0) (token_at tokens 1) (token_at tokens 2) (token_at tokens 3) (token_at tokens 4)
 
 abbrev pub RuleFront : List ℕ → List Token → Type 0
-RuleFront bytes ts = IsUnsafeApply bytes (token_at ts 0) (token_at ts 1) (token_at ts 2) (token_at ts 3) (token_at ts 4) (token_at ts 5) (token_at ts 6) (token_at ts 7)
+RuleFront bytes tokens = IsUnsafeApply bytes (token_at tokens 0) (token_at tokens 1) (token_at tokens 2) (token_at tokens 3) (token_at tokens 4) (token_at tokens 5) (token_at tokens 6) (token_at tokens 7)
 
 abbrev pub HeadFront : List ℕ → List Token → Type 0
-HeadFront bytes ts = IsConstantHead bytes (token_at ts 0) (token_at ts 1) (token_at ts 2)
+HeadFront bytes tokens = IsConstantHead bytes (token_at tokens 0) (token_at tokens 1) (token_at tokens 2)
 
 -- what the front of a constant says of the tokens that it begins
-pub record IsConstantFront (bytes : List ℕ) (ts : List Token) (name : Token) (bs : List Token) (l : Token) (count : ℕ) : Type 0 where
-  pub long : 3 ≤ length ts
-  pub head : HeadFront bytes ts
-  pub name_is : name ≡ token_at ts 1
+pub record IsConstantFront (bytes : List ℕ) (tokens : List Token) (name : Token) (binders : List Token) (last : Token) (count : ℕ) : Type 0 where
+  pub long : 3 ≤ length tokens
+  pub head : HeadFront bytes tokens
+  pub name_is : name ≡ token_at tokens 1
   pub rest : List Token
-  pub type : IsTypeFront bytes (drop 3 ts) bs l rest
-  pub size : count + length rest ≡ length ts
+  pub type : IsTypeFront bytes (drop 3 tokens) binders last rest
+  pub size : count + length rest ≡ length tokens

@@ -1,4 +1,5 @@
-use Rattle.std.proofs.Common.{rules}
+use Rattle.std.proofs.Common.{◌∙◌, List, ℕ, ap, sym, rules}
+use Rattle.lf_terms.specs.Places.{place_of}
 use Rattle.small_files.proofs.draft.Draft.with_rule.Goals as goal
 
 pub returns-in_default-clause-refused : goal.returns-in_default-clause-refused
@@ -11,6 +12,6 @@ returns-clause-ok c = record {
   percent = c.in-Some.percent;
   says = c.in-Some.ensures.says;
   number = c.in-Some-find.constant;
-  known = search rules;
-  after = search rules;
+  known = ap (λ (names : List (List ℕ)). place_of names c.args.subject.now) (sym c.args.self.constants_named) ∙ sym c.in-Some-find.ensures;
+  after = rw (c.in_ok-push.ensures.ok, c.in_ok-from_slice.ensures);
 }
