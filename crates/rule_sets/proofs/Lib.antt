@@ -6,3 +6,5 @@ pub mod Tested
 pub mod Constructors
 pub mod Turns
 pub mod Sets
+pub mod Over
+pub mod Orders

@@ -6,6 +6,7 @@
 
 pub mod book;
 mod faults;
+pub mod laws;
 mod lists;
 pub mod order;
 pub mod rule;
