@@ -42,6 +42,8 @@ pub use ty::{Atom, Ctx, Kind, Ty, Tys};
 pub use words::Words;
 
 #[cfg(test)]
+mod signature_tests;
+#[cfg(test)]
 mod term_tests;
 #[cfg(test)]
 mod tests;

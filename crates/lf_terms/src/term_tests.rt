@@ -1,18 +1,21 @@
 //! With ample memory each call on terms answers.
 
 ghost use Rattle.std.specs.Prelude.{◌≡◌, IfOk, [], ◌∷◌};
+ghost use Rattle.lf_definitions.specs.Syntax.{base, arrow, no_args, arg, pi, family};
 ghost use Rattle.lf_terms.specs.Shapes.{simple_type_of};
+ghost use Rattle.lf_terms.specs.Terms.{term_of};
+ghost use Rattle.lf_terms.specs.Types.{type_of};
 
 use crate::eta::eta;
 use crate::head::Head;
 use crate::no_memory::NoMemory;
-use crate::same::same;
+use crate::same::{same, same_atom, same_terms, same_ty, same_tys};
 use crate::shape::{MetaShapes, Shape, Shapes};
 use crate::shape_of::shape_of;
 use crate::shaped::shaped;
-use crate::subst::subst;
+use crate::subst::{put_type, subst};
 use crate::term::{Body, Term, Terms, copy};
-use crate::ty::{Ty, Tys};
+use crate::ty::{Atom, Kind, Ty, Tys};
 use std::alloc::Global;
 use std::test::Fail;
 
@@ -20,10 +23,16 @@ fn constant(number: u32) -> Term {
     Term::At(Head::Const(number), Terms::new())
 }
 
+fn one_term(alloc: Global, term: Term) -> Result<Terms, NoMemory>
+    ensures { IfOk result (λ terms. terms ≡ arg (term_of term) no_args) }
+{
+    let mut terms = Vec::new(alloc);
+    terms.push(term)?;
+    Terms::from_vec(alloc, terms)
+}
+
 fn applied(alloc: Global, head: Head, arg: Term) -> Result<Term, NoMemory> {
-    let mut args = Vec::new(alloc);
-    args.push(arg)?;
-    Ok(Term::At(head, Terms::from_vec(alloc, args)?))
+    Ok(Term::At(head, one_term(alloc, arg)?))
 }
 
 fn one_shape(alloc: Global, shape: Shape) -> Result<Shapes, NoMemory>
@@ -34,8 +43,10 @@ fn one_shape(alloc: Global, shape: Shape) -> Result<Shapes, NoMemory>
     Shapes::from_vec(alloc, shapes)
 }
 
-// The shape of what takes one argument, by its type.
-fn arrow(alloc: Global) -> Result<Shape, NoMemory> {
+// The type of what takes a number, over the family 1 with these arguments.
+fn from_numbers(alloc: Global, args: Terms) -> Result<Ty, NoMemory>
+    ensures { IfOk result (λ ty. type_of ty ≡ pi (family 0 no_args) (family 1 args)) }
+{
     let mut types = Vec::new(alloc);
     types.push(Ty {
         binders: Tys::new(),
@@ -43,11 +54,18 @@ fn arrow(alloc: Global) -> Result<Shape, NoMemory> {
         args: Terms::new(),
     })?;
     let binders = Tys::from_vec(alloc, types)?;
-    let ty = Ty {
+    Ok(Ty {
         binders,
-        family: 0,
-        args: Terms::new(),
-    };
+        family: 1,
+        args,
+    })
+}
+
+// The shape of what takes one argument, by its type.
+fn arrow(alloc: Global) -> Result<Shape, NoMemory>
+    ensures { IfOk result (λ shape. simple_type_of shape ≡ arrow base base) }
+{
+    let ty = from_numbers(alloc, Terms::new())?;
     shape_of(alloc, &ty)
 }
 
@@ -108,6 +126,98 @@ fn substitution_goes_on_at_a_replaced_head(rt: HostRuntime) -> Result<(), Fail> 
     match result {
         None => assert!(rt; false),
         Some(result) => assert!(rt; same(&result, &wanted)),
+    }
+    Ok(())
+}
+
+// The type of what takes a number, over a family with these arguments, in which `put` is put for the one
+// variable outside, where they are shaped.
+fn put_one_in_type(alloc: Global, put: Term, args: Terms) -> Result<Option<Ty>, NoMemory> {
+    let sig = constants(alloc)?;
+    let metas = MetaShapes::new(alloc);
+    let outer = Shapes::new();
+    let base = Shape {
+        args: Shapes::new(),
+    };
+    if !shaped(&sig, &metas, &outer, &put, &base) {
+        return Ok(None);
+    }
+    let inner = one_shape(alloc, base)?;
+    let body = Term::At(Head::Const(1), args.copy()?);
+    let term = Term::Lam(Body::new(alloc, body)?);
+    let shape = arrow(alloc)?;
+    if !shaped(&sig, &metas, &inner, &term, &shape) {
+        return Ok(None);
+    }
+    let ty = from_numbers(alloc, args)?;
+    let shapes = inner.as_slice();
+    let mut puts = Vec::new(alloc);
+    puts.push(put)?;
+    let result = put_type(alloc, shapes, puts.as_slice(), 0, &ty)?;
+    Ok(Some(result))
+}
+
+#[test]
+fn a_term_is_put_under_the_binders_of_a_type(rt: HostRuntime) -> Result<(), Fail> {
+    let alloc = rt.alloc();
+    let outside = Term::At(Head::Bound(1), Terms::new());
+    let result = put_one_in_type(alloc, constant(0), one_term(alloc, outside)?)?;
+    let wanted = from_numbers(alloc, one_term(alloc, constant(0))?)?;
+    match result {
+        None => assert!(rt; false),
+        Some(result) => assert!(rt; same_ty(&result, &wanted)),
+    }
+    Ok(())
+}
+
+#[test]
+fn copies_of_lists_of_terms_equal_their_sources(rt: HostRuntime) -> Result<(), Fail> {
+    let alloc = rt.alloc();
+    for count in 0..4usize {
+        let mut terms = Vec::new(alloc);
+        for _ in 0..count {
+            terms.push(constant(7))?;
+        }
+        let terms = Terms::from_vec(alloc, terms)?;
+        let copy = terms.copy()?;
+        assert_eq!(rt; copy.len(), count);
+        assert!(rt; same_terms(&copy, &terms));
+    }
+    Ok(())
+}
+
+#[test]
+fn copies_of_bodies_and_types_equal_their_sources(rt: HostRuntime) -> Result<(), Fail> {
+    let alloc = rt.alloc();
+    let body = Body::new(alloc, applied(alloc, Head::Meta(2), constant(0))?)?;
+    let copy = body.copy()?;
+    assert!(rt; same(copy.term(), body.term()));
+    let ty = from_numbers(alloc, one_term(alloc, constant(0))?)?;
+    assert!(rt; same_ty(&ty.copy()?, &ty));
+    let atom = Atom {
+        family: 4,
+        args: ty.args.copy()?,
+    };
+    assert!(rt; same_atom(&atom.copy()?, &atom));
+    let kind = Kind {
+        binders: ty.binders.copy()?,
+    };
+    let copy = kind.copy()?;
+    assert!(rt; same_tys(&copy.binders, &ty.binders));
+    Ok(())
+}
+
+#[test]
+fn a_shared_list_of_shapes_grows_apart_from_its_copy(rt: HostRuntime) -> Result<(), Fail> {
+    let alloc = rt.alloc();
+    let shapes = constants(alloc)?;
+    let mut copy = shapes.copy()?;
+    copy.push(alloc, arrow(alloc)?.copy()?)?;
+    copy.push(alloc, arrow(alloc)?)?;
+    assert_eq!(rt; shapes.len(), 2);
+    assert_eq!(rt; copy.len(), 4);
+    for (shape, count) in copy.as_slice().iter().zip([0, 1, 1, 1]) {
+        assert_eq!(rt; shape.args.len(), count);
     }
     Ok(())
 }
