@@ -2,6 +2,7 @@ pub mod Options
 pub mod Lists
 pub mod Numbers
 pub mod Derivations
+pub mod DerivationTerms
 pub mod Closings
 pub mod Saturation
 pub mod Ways

@@ -1,4 +1,5 @@
 pub mod Derivations
+pub mod DerivationTerms
 pub mod Parts
 pub mod Closings
 pub mod RulesOf

@@ -1,8 +1,10 @@
 //! Laws of derivations over small files. A call does nothing: its contract is the law.
 
-ghost use Rattle.std.specs.Prelude.{◌↔◌, ℕ, List, [], ◌∷◌, ◌++◌, All, Contains, IsSome};
+ghost use Rattle.std.specs.Prelude.{◌≡◌, ◌↔◌, ℕ, List, [], ◌∷◌, ◌++◌, All, Contains, IsSome};
+ghost use Rattle.lf_definitions.specs.Syntax.{Spine};
 ghost use Rattle.small_files.specs.declared.small.SmallFile.{SmallFile};
 ghost use Rattle.small_search.specs.Derivations.{Derivation};
+ghost use Rattle.small_search.specs.DerivationTerms.{HasTerms};
 ghost use Rattle.small_search.specs.Parts.{HasDerivation, IsSplit};
 ghost use Rattle.small_search.specs.Closings.{Closings, closing_of, IsTable};
 
@@ -28,4 +30,16 @@ pub fn a_table_closes_what_is_derived()
 pub fn a_table_has_its_closed_families_in_order()
     ensures { (file : SmallFile) (table : Closings) (family : ℕ) → IsTable file table
         → IsSome (closing_of table.by_family family) ↔ Contains table.order family }
+{}
+
+/// A list of numbers has terms for goals exactly where it is a derivation of them.
+pub fn a_derivation_is_what_has_terms()
+    ensures { (file : SmallFile) (goals numbers : List ℕ)
+        → Derivation file goals numbers ↔ ((terms : Spine) × HasTerms file goals numbers terms) }
+{}
+
+/// The terms that a derivation gives are one.
+pub fn a_derivation_has_its_terms_in_one_way()
+    ensures { (file : SmallFile) (goals numbers : List ℕ) (terms others : Spine)
+        → HasTerms file goals numbers terms → HasTerms file goals numbers others → terms ≡ others }
 {}
