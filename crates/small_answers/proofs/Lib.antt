@@ -1,0 +1,2 @@
+pub mod TableTerms
+pub mod TermTexts

@@ -1,0 +1,157 @@
+-- The texts of terms that a table gives.
+use Rattle.std.proofs.Common.{◌≡◌, ℕ, zero, suc, ◌+◌, ◌-◌, ◌<◌, ◌≤◌, List, [], ◌∷◌, ◌++◌, length, map, take, get_or, Option, Some, None, IsSome, All, Bool, true, false, nat_lt, cond, slice_get, slice_index_or, refl, sym, subst, ap, ◌∙◌, arith, append_assoc, append-nil}
+use Rattle.std.specs.Prelude.{codes, if◌then◌else◌}
+use Rattle.std.proofs.lemmas.List.{take_more, get_or-map, flat_map_more}
+use Rattle.std.proofs.lemmas.Bool.{lt-ltb}
+use Rattle.std.proofs.lemmas.Option.{slice_get_within, get_or_from_slice_get}
+use Rattle.lf_definitions.specs.Syntax.{LfTerm, at, constant, Spine, no_args, arg, args_count, joined}
+use Rattle.small_files.specs.declared.small.SmallFile.{SmallFile}
+use Rattle.small_files.specs.declared.small.SmallConst.{SmallConst}
+use Rattle.small_files.specs.declared.small.SmallRule.{SmallRule}
+use Rattle.small_files.specs.Names.{constant_names, rule_names}
+use Rattle.small_search.specs.declared.closing.Closing.{Closing}
+use Rattle.small_search.specs.Closings.{closing_of, IsClosedBelow}
+use Rattle.small_search.proofs.Options.{IsSome-from_some}
+use Rattle.small_answers.specs.Texts.{name_at, has_args, in_parentheses, term_text, args_text, step_line, script_text}
+use Rattle.small_answers.specs.Chosen.{IsChosen, GivesTerms, gives_none, gives_one, GivesTerm, IsRuleNumber}
+use Rattle.small_answers.specs.Additions.{AddsNumbers, AddsArgs, AddsTerm}
+use Rattle.small_answers.proofs.TableTerms.{IsChosen-one, GivesTerms-join, GivesTerms-push, GivesTerm-chosen}
+
+-- the list up to a place, and the entry there
+pub take_next : (xs : List ℕ) (i x : ℕ) → i < length xs → x ≡ get_or xs i x → take (i + 1) xs ≡ take i xs ++ x ∷ []
+take_next xs i x within is = take_more xs i x within ∙ ap (λ (y : ℕ). take i xs ++ y ∷ []) (sym is)
+
+-- how many families were closed before
+abbrev pub rank_of : Option Closing → ℕ
+rank_of None = 0
+rank_of (Some closing) = closing.rank
+
+-- A binder is closed, at a lower rank.
+pub record IsLower (closings : List (Option Closing)) (family binder : ℕ) : Type 0 where
+  pub closed : IsSome (closing_of closings binder)
+  pub lower : rank_of (closing_of closings binder) < rank_of (closing_of closings family)
+
+pub IsLower-binder : (file : SmallFile) (closings : List (Option Closing)) (family rule number : ℕ) (declared : SmallConst) (i : ℕ) (binder : ℕ) → IsChosen file closings family rule number declared → i < length declared.binders → binder ≡ get_or declared.binders i binder → IsLower closings family binder
+IsLower-binder file closings family rule number declared i binder chosen within is =
+    let below = subst (IsClosedBelow closings chosen.closing.rank) (sym is) (chosen.earlier i binder within) in
+    record {
+      closed = IsSome-from_some (closing_of closings binder) below.closing below.closes;
+      lower = omega (arith, below.below, ap rank_of below.closes, ap rank_of chosen.closes);
+    }
+
+-- ---- numbers
+
+module _ (file : SmallFile) (closings : List (Option Closing)) where
+  pub AddsNumbers-none : (old : List ℕ) → AddsNumbers file closings [] old old
+  AddsNumbers-none old = record { numbers = []; terms = no_args; gives = gives_none; added = sym (append-nil old) }
+
+  pub AddsNumbers-push : (goals old middle new : List ℕ) (goal : ℕ) → AddsNumbers file closings goals old middle → AddsNumbers file closings (goal ∷ []) middle new → AddsNumbers file closings (goals ++ goal ∷ []) old new
+  AddsNumbers-push goals old middle new goal some one = record {
+    numbers = some.numbers ++ one.numbers;
+    terms = joined some.terms one.terms;
+    gives = GivesTerms-join file closings goals (goal ∷ []) some.numbers one.numbers some.terms one.terms some.gives one.gives;
+    added = one.added ∙ ap (λ (ks : List ℕ). ks ++ one.numbers) some.added ∙ append_assoc old some.numbers one.numbers;
+  }
+
+  pub AddsNumbers-chosen : (family rule number : ℕ) (declared : SmallConst) (old middle new : List ℕ) → IsChosen file closings family rule number declared → middle ≡ old ++ rule ∷ [] → AddsNumbers file closings declared.binders middle new → AddsNumbers file closings (family ∷ []) old new
+  AddsNumbers-chosen family rule number declared old middle new chosen first under = record {
+    numbers = rule ∷ under.numbers;
+    terms = arg (at (constant number) under.terms) no_args;
+    gives = GivesTerm-chosen file closings family rule number declared under.numbers under.terms chosen under.gives;
+    added = under.added ∙ ap (λ (ks : List ℕ). ks ++ under.numbers) first ∙ append_assoc old (rule ∷ []) under.numbers;
+  }
+
+-- ---- texts
+
+pub args_text-joined : (names : List (List ℕ)) (a b : Spine) → args_text names (joined a b) ≡ args_text names a ++ args_text names b
+args_text-joined names no_args b = refl
+args_text-joined names (arg t ts) b =
+    ap (λ (rest : List ℕ). (codes " " ++ in_parentheses (has_args t) (term_text names t)) ++ rest) (args_text-joined names ts b)
+    ∙ sym (append_assoc (codes " " ++ in_parentheses (has_args t) (term_text names t)) (args_text names ts) (args_text names b))
+
+-- an argument is what stands before it, its text and what stands after it
+argument_parts : (is_nested : Bool) (text : List ℕ) → ((if is_nested then codes " (" else codes " ") ++ text) ++ (if is_nested then codes ")" else codes "") ≡ codes " " ++ in_parentheses is_nested text
+argument_parts true text = refl
+argument_parts false text = append-nil (codes " " ++ text)
+
+pub name_of_constant : (constants : List SmallConst) (number : ℕ) (declared : SmallConst) → slice_get constants number ≡ Some declared → name_at (constant_names constants) number ≡ declared.name
+name_of_constant constants number declared is =
+    get_or-map (λ (c : SmallConst). c.name) constants number declared [] (slice_get_within constants number declared is)
+    ∙ ap (λ (c : SmallConst). c.name) (get_or_from_slice_get constants number declared declared is)
+
+some_below : (n : ℕ) → nat_lt 0 (suc n) ≡ true
+some_below n = lt-ltb 0 (suc n) (omega arith)
+
+-- the binders give the arguments, and so there are some where there is a binder
+args_of_binders : (file : SmallFile) (closings : List (Option Closing)) (number : ℕ) (binders below : List ℕ) (args : Spine) → GivesTerms file closings binders below args → nat_lt 0 (length binders) ≡ has_args (at (constant number) args)
+args_of_binders file closings number binders below args gives_none = refl
+args_of_binders file closings number binders below args (gives_one goal rule n declared goals under rest more inner others chosen one after parts) = some_below (length goals)
+
+module _ (file : SmallFile) (closings : List (Option Closing)) where
+  pub has_args-chosen : (family rule number : ℕ) (declared : SmallConst) (numbers : List ℕ) (term : LfTerm) → IsChosen file closings family rule number declared → GivesTerm file closings family numbers term → nat_lt 0 (length declared.binders) ≡ has_args term
+  has_args-chosen family rule number declared numbers term chosen (gives_one goal rule' number' declared' goals below rest more args others chosen' under after parts) =
+      let one = IsChosen-one file closings family rule rule' number number' declared declared' chosen chosen' in
+      ap (λ (c : SmallConst). nat_lt 0 (length c.binders)) one.constants ∙ args_of_binders file closings number' declared'.binders below args under
+
+  pub AddsArgs-none : (old : List ℕ) → AddsArgs file closings [] old old
+  AddsArgs-none old = record { numbers = []; terms = no_args; gives = gives_none; added = sym (append-nil old) }
+
+  pub AddsArgs-push : (goals old a b c new : List ℕ) (goal : ℕ) (is_nested : Bool) →
+      ((numbers : List ℕ) (term : LfTerm) → GivesTerm file closings goal numbers term → is_nested ≡ has_args term) →
+      AddsArgs file closings goals old a → b ≡ a ++ (if is_nested then codes " (" else codes " ") → AddsTerm file closings goal b c →
+      new ≡ c ++ (if is_nested then codes ")" else codes "") → AddsArgs file closings (goals ++ goal ∷ []) old new
+  AddsArgs-push goals old a b c new goal is_nested nests some before one after =
+      let names = constant_names file.constants in
+      let text = term_text names one.term in
+      let open_ = if is_nested then codes " (" else codes " " in
+      let close_ = if is_nested then codes ")" else codes "" in
+      let nested : is_nested ≡ has_args one.term = nests one.numbers one.term one.gives in
+      let piece : (open_ ++ text) ++ close_ ≡ args_text names (arg one.term no_args) =
+      argument_parts is_nested text ∙ ap (λ (n : Bool). codes " " ++ in_parentheses n text) nested ∙ sym (append-nil (codes " " ++ in_parentheses (has_args one.term) text)) in
+      let far : new ≡ a ++ ((open_ ++ text) ++ close_) =
+      after ∙ ap (λ (t : List ℕ). t ++ close_) (one.added ∙ ap (λ (t : List ℕ). t ++ text) before ∙ append_assoc a open_ text) ∙ append_assoc a (open_ ++ text) close_ in
+      record {
+        numbers = some.numbers ++ one.numbers;
+        terms = joined some.terms (arg one.term no_args);
+        gives = GivesTerms-push file closings goals some.numbers one.numbers goal some.terms one.term some.gives one.gives;
+        added = far ∙ ap (λ (t : List ℕ). a ++ t) piece ∙ ap (λ (t : List ℕ). t ++ args_text names (arg one.term no_args)) some.added
+            ∙ append_assoc old (args_text names some.terms) (args_text names (arg one.term no_args))
+            ∙ ap (λ (t : List ℕ). old ++ t) (sym (args_text-joined names some.terms (arg one.term no_args)));
+      }
+
+  pub AddsTerm-chosen : (family rule number : ℕ) (declared : SmallConst) (old middle new : List ℕ) → IsChosen file closings family rule number declared → middle ≡ old ++ declared.name → AddsArgs file closings declared.binders middle new → AddsTerm file closings family old new
+  AddsTerm-chosen family rule number declared old middle new chosen first under =
+      let names = constant_names file.constants in
+      let is : slice_get file.constants number ≡ Some declared = ap (slice_get file.constants) (sym chosen.number_is) ∙ chosen.is_rule.constant_is in
+      record {
+        numbers = rule ∷ under.numbers;
+        term = at (constant number) under.terms;
+        gives = GivesTerm-chosen file closings family rule number declared under.numbers under.terms chosen under.gives;
+        added = under.added ∙ ap (λ (t : List ℕ). t ++ args_text names under.terms) first
+            ∙ append_assoc old declared.name (args_text names under.terms)
+            ∙ ap (λ (t : List ℕ). old ++ (t ++ args_text names under.terms)) (sym (name_of_constant file.constants number declared is));
+      }
+
+-- ---- scripts
+
+name_of_rule : (rules : List SmallRule) (number place : ℕ) (rule : SmallRule) → number ≡ suc (suc place) → place < length rules → rule ≡ get_or rules place rule → name_at (rule_names rules) number ≡ rule.name
+name_of_rule rules number place rule e within is =
+    ap (name_at (rule_names rules)) e
+    ∙ get_or-map (λ (r : SmallRule). r.name) rules place rule [] within
+    ∙ ap (λ (r : SmallRule). r.name) (sym is)
+
+-- one more step
+pub script_text-more : (file : SmallFile) (numbers start out a b new : List ℕ) (i number : ℕ) (rule : SmallRule) → IsRuleNumber file number → rule ≡ get_or file.rules (number - 2) rule →
+    i < length numbers → number ≡ get_or numbers i number →
+    out ≡ start ++ script_text (rule_names file.rules) (take i numbers) → a ≡ out ++ codes "step unsafe " → b ≡ a ++ rule.name → new ≡ b ++ 10 ∷ [] →
+    new ≡ start ++ script_text (rule_names file.rules) (take (i + 1) numbers)
+script_text-more file numbers start out a b new i number rule known is within stands done p q r =
+    let names = rule_names file.rules in
+    let named : name_at names number ≡ rule.name = name_of_rule file.rules number (number - 2) rule (omega (arith, known.two)) (omega (arith, known.two, known.within)) is in
+    let lines : new ≡ out ++ step_line names number =
+    r ∙ ap (λ (t : List ℕ). t ++ 10 ∷ []) (q ∙ ap (λ (t : List ℕ). t ++ rule.name) p ∙ append_assoc out (codes "step unsafe ") rule.name)
+    ∙ append_assoc out (codes "step unsafe " ++ rule.name) (10 ∷ [])
+    ∙ ap (λ (t : List ℕ). out ++ ((codes "step unsafe " ++ t) ++ 10 ∷ [])) (sym named) in
+    lines ∙ ap (λ (t : List ℕ). t ++ step_line names number) done
+    ∙ flat_map_more (step_line names) start (take i numbers) number
+    ∙ ap (λ (ks : List ℕ). start ++ script_text names ks) (sym (take_next numbers i number within stands))

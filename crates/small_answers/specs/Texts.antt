@@ -1,0 +1,42 @@
+-- The texts of terms and of scripts, by the names of constants and rules.
+use Rattle.std.specs.Prelude.{ℕ, List, [], ◌∷◌, ◌++◌, codes, Bool, true, false, slice_index_or}
+use Rattle.std.specs.List.{flat_map}
+use Rattle.lf_definitions.specs.Syntax.{LfHead, bound, constant, metavariable, LfTerm, lam, at, Spine, no_args, arg}
+
+-- these bytes and a line feed
+abbrev pub line : List ℕ → List ℕ
+line bytes = bytes ++ 10 ∷ []
+
+-- the name of this number
+abbrev pub name_at : List (List ℕ) → ℕ → List ℕ
+name_at names number = slice_index_or names number []
+
+abbrev pub has_args : LfTerm → Bool
+has_args (lam b) = false
+has_args (at h no_args) = false
+has_args (at h (arg t ts)) = true
+
+abbrev pub in_parentheses : Bool → List ℕ → List ℕ
+in_parentheses true text = codes "(" ++ text ++ codes ")"
+in_parentheses false text = text
+
+-- The text of a term whose heads are constants, as those of small files are: the head's name, and then for each
+-- argument a space and the argument, which stands in parentheses unless it has no arguments.
+abbrev mutual
+  pub term_text : (names : List (List ℕ)) → LfTerm → List ℕ
+  term_text names (lam b) = []
+  term_text names (at (bound n) args) = []
+  term_text names (at (metavariable n) args) = []
+  term_text names (at (constant number) args) = name_at names number ++ args_text names args
+
+  pub args_text : (names : List (List ℕ)) → Spine → List ℕ
+  args_text names no_args = []
+  args_text names (arg t ts) = codes " " ++ in_parentheses (has_args t) (term_text names t) ++ args_text names ts
+
+-- the line of a step by the rule of this number
+abbrev pub step_line : (names : List (List ℕ)) → ℕ → List ℕ
+step_line names number = line (codes "step unsafe " ++ name_at names number)
+
+-- a line for each step
+abbrev pub script_text : (names : List (List ℕ)) → List ℕ → List ℕ
+script_text names numbers = flat_map (step_line names) numbers

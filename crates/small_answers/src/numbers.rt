@@ -1,0 +1,31 @@
+//! The numbers of a derivation.
+
+ghost use Rattle.std.specs.Prelude.{OnOk, IsSome, ◌∷◌, []};
+ghost use Rattle.small_search.specs.Closings.{closing_of, IsTable};
+ghost use Rattle.small_answers.specs.Additions.{AddsNumbers};
+
+use crate::choices::choice_of;
+use small_files::SmallFile;
+use lf_terms::{Ids, NoMemory};
+use small_search::Table;
+
+/// Adds the numbers of the rules that close a closed family, in the order in which they close a list
+/// of goals: the rule of the family, and then those of its binders from left to right. Its time is
+/// linear in how many there are.
+pub fn append_numbers(
+    numbers: &mut Ids,
+    file: &SmallFile,
+    table: &Table,
+    family: u32,
+) -> Result<(), NoMemory>
+    requires table { IsTable file.now table.now }
+    requires closed { IsSome (closing_of table.now.by_family family) }
+    ensures { OnOk result (AddsNumbers file.now table.now.by_family (family ∷ []) numbers.old numbers.new) }
+{
+    let choice = choice_of(file, table, family);
+    numbers.push(choice.rule)?;
+    for binder in choice.constant.binders.as_slice() {
+        append_numbers(numbers, file, table, *binder)?;
+    }
+    Ok(())
+}
