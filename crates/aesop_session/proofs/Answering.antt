@@ -2,7 +2,7 @@
 use Rattle.std.proofs.Common.{◌≡◌, ℕ, List, [], ◌∷◌, ◌++◌, length, refl, sym, subst, ap, ◌∙◌, arith, Some, None, Option, ◌⊎◌, inl, inr, append-nil, length-append, false, true}
 use Rattle.std.specs.Prelude.{IsTrue, ◌↔◌}
 use Rattle.small_files.specs.declared.small.SmallFile.{SmallFile}
-use Rattle.small_files.specs.FlatFile.{IsFlatFile}
+use Rattle.small_files.specs.SmallFiles.{IsSmallFile}
 use Rattle.aesop_session.specs.declared.status.Status.{Status}
 use Rattle.aesop_session.specs.declared.status.Status.TheVariants.{AllProved, SomeStuck, SomeSpent, FileRefused, Usage, TooLong, ReadFault, WriteFault, NoMemory, AnswersRefused}
 use Rattle.aesop_session.specs.Commands.{prove_words}
@@ -50,33 +50,33 @@ not_read_fault held after file status w e = elim (IsDocument-status file status 
 pub not_write_fault : (held after : Option (List ℕ)) (file : SmallFile) (status : Status) → WritesDocument file held after status → status ≡ WriteFault → ⊥
 not_write_fault held after file status w e = elim (IsDocument-status file status w.0 w.1) [ inl all ↦ cc | inr some ↦ cc ]
 
--- a source that had just a flat file gives no reason to refuse it
-not_refused : (input : List ℕ) (later : Option (List ℕ)) (file : SmallFile) → IsFlatFile input file → RefusesFile (Some input) later → ⊥
-not_refused input None file flat (inl r) = r.1.0
-not_refused input None file flat (inr r) = r.2
-not_refused input (Some rest) file flat (inl r) =
+-- a source that had just a small file gives no reason to refuse it
+not_refused : (input : List ℕ) (later : Option (List ℕ)) (file : SmallFile) → IsSmallFile input file → RefusesFile (Some input) later → ⊥
+not_refused input None file small (inl r) = r.1.0
+not_refused input None file small (inr r) = r.2
+not_refused input (Some rest) file small (inl r) =
     let whole : input ≡ r.0 = r.1.0 ∙ ap (λ (t : List ℕ). r.0 ++ t) r.1.1 ∙ append-nil r.0 in
-    r.2 file (subst (λ bytes. IsFlatFile bytes file) whole flat)
-not_refused input (Some rest) file flat (inr r) = omega (arith, flat.size, r.1, ap length r.2, length-append r.0 rest)
+    r.2 file (subst (λ bytes. IsSmallFile bytes file) whole small)
+not_refused input (Some rest) file small (inr r) = omega (arith, small.size, r.1, ap length r.2, length-append r.0 rest)
 
-served : (status : Status) (input : List ℕ) (later held after : Option (List ℕ)) (file : SmallFile) → IsFlatFile input file → Answered prove_words (Some input) later held after status →
+served : (status : Status) (input : List ℕ) (later held after : Option (List ℕ)) (file : SmallFile) → IsSmallFile input file → Answered prove_words (Some input) later held after status →
     (status ≡ ReadFault → ⊥) → (status ≡ WriteFault → ⊥) → Served status
-served AllProved input later held after file flat a no_read no_write = tt
-served SomeStuck input later held after file flat a no_read no_write = tt
-served SomeSpent input later held after file flat a no_read no_write = a.1
-served FileRefused input later held after file flat a no_read no_write = not_refused input later file flat a.1.1
-served Usage input later held after file flat a no_read no_write = a.1.0 refl
-served TooLong input later held after file flat a no_read no_write = a.1
-served ReadFault input later held after file flat a no_read no_write = no_read refl
-served WriteFault input later held after file flat a no_read no_write = no_write refl
-served NoMemory input later held after file flat a no_read no_write = tt
-served AnswersRefused input later held after file flat a no_read no_write = a.1
+served AllProved input later held after file small a no_read no_write = tt
+served SomeStuck input later held after file small a no_read no_write = tt
+served SomeSpent input later held after file small a no_read no_write = a.1
+served FileRefused input later held after file small a no_read no_write = not_refused input later file small a.1.1
+served Usage input later held after file small a no_read no_write = a.1.0 refl
+served TooLong input later held after file small a no_read no_write = a.1
+served ReadFault input later held after file small a no_read no_write = no_read refl
+served WriteFault input later held after file small a no_read no_write = no_write refl
+served NoMemory input later held after file small a no_read no_write = tt
+served AnswersRefused input later held after file small a no_read no_write = a.1
 
--- a flat file is served where nothing fails
-pub Answered-served : (status : Status) (input : List ℕ) (left later held after : Option (List ℕ)) (file : SmallFile) → left ≡ Some input → IsFlatFile input file → Answered prove_words left later held after status →
+-- a small file is served where nothing fails
+pub Answered-served : (status : Status) (input : List ℕ) (left later held after : Option (List ℕ)) (file : SmallFile) → left ≡ Some input → IsSmallFile input file → Answered prove_words left later held after status →
     (status ≡ ReadFault → ⊥) → (status ≡ WriteFault → ⊥) → Served status
-Answered-served status input left later held after file tells flat a no_read no_write =
-    served status input later held after file flat (subst (λ l. Answered prove_words l later held after status) tells a) no_read no_write
+Answered-served status input left later held after file tells small a no_read no_write =
+    served status input later held after file small (subst (λ l. Answered prove_words l later held after status) tells a) no_read no_write
 
 pub refuted : {P : Type 0} → (IsTrue false ↔ P) → P → ⊥
 refuted e p = let clash : false ≡ true = e.1 p in cc

@@ -6,13 +6,13 @@ use Rattle.std.proofs.lemmas.List.{take_more, take-append-drop}
 use Rattle.run_io.specs.Moves.{AppendsFront}
 use Rattle.small_files.specs.declared.small.SmallFile.{SmallFile}
 use Rattle.small_files.specs.declared.small.SmallTheorem.{SmallTheorem}
-use Rattle.small_files.specs.FlatFile.{IsFlat}
 use Rattle.aesop_session.specs.declared.status.Status.{Status}
 use Rattle.aesop_session.specs.declared.status.Status.TheVariants.{AllProved, SomeStuck}
 use Rattle.small_search.specs.declared.closing.Closing.{Closing}
 use Rattle.small_search.specs.Closings.{Closings, closing_of, IsTable}
-use Rattle.aesop_session.specs.Documents.{Verdict, proved, stuck, verdict_of, proved_text, stuck_text, IsBlock, AreBlocks, nothing, next, status_of, first_line, last_line, WritesBlock, WritesBlockFront, WritesBlocks, WritesBlocksFront, WritesDocument, WritesDocumentFront}
-use Rattle.aesop_session.proofs.Blocks.{choice_of, proved_block, stuck_block}
+use Rattle.aesop_session.specs.Documents.{Verdict, proved, stuck, verdict_of, stuck_text, IsBlock, AreBlocks, nothing, next, status_of, first_line, last_line, WritesBlock, WritesBlockFront, WritesBlocks, WritesBlocksFront, WritesDocument, WritesDocumentFront}
+use Rattle.small_answers.proofs.TableTerms.{GivesTerm-closed}
+use Rattle.aesop_session.proofs.Blocks.{proved_block, stuck_block}
 
 -- ---- fronts
 
@@ -29,22 +29,23 @@ AppendsFront-after held middle after done text a f =
 
 -- ---- blocks that are left to write
 
-block_at : (file : SmallFile) (table : Closings) (theorem : SmallTheorem) → IsFlat file → IsTable file table → (found : Option Closing) → closing_of table.by_family theorem.family ≡ found → (verdict : Verdict) × (text : List ℕ) × IsBlock file theorem verdict text
-block_at file table theorem flat is_table (Some closing) at =
-    let closes = choice_of file table theorem.family closing is_table at in
-    (proved, proved_text theorem.name closes.choice.constant.name closes.choice.rule.name, proved_block file theorem closing.rule closes.left flat closes.choice)
-block_at file table theorem flat is_table None at = (stuck, stuck_text theorem.name, stuck_block file theorem table is_table at)
+block_at : (file : SmallFile) (table : Closings) (theorem : SmallTheorem) → IsTable file table → (found : Option Closing) → closing_of table.by_family theorem.family ≡ found → (verdict : Verdict) × (text : List ℕ) × IsBlock file theorem verdict text
+block_at file table theorem is_table (Some closing) found =
+    let given = GivesTerm-closed file table.by_family table.order is_table.closings theorem.family closing found in
+    let block = proved_block file theorem table.by_family given.0 given.1 given.2 in
+    (proved, block.0, block.1)
+block_at file table theorem is_table None found = (stuck, stuck_text theorem.name, stuck_block file theorem table is_table found)
 
 -- each theorem has a right block
-pub right_block : (file : SmallFile) (table : Closings) (theorem : SmallTheorem) → IsFlat file → IsTable file table → (verdict : Verdict) × (text : List ℕ) × IsBlock file theorem verdict text
-right_block file table theorem flat is_table = block_at file table theorem flat is_table (closing_of table.by_family theorem.family) refl
+pub right_block : (file : SmallFile) (table : Closings) (theorem : SmallTheorem) → IsTable file table → (verdict : Verdict) × (text : List ℕ) × IsBlock file theorem verdict text
+right_block file table theorem is_table = block_at file table theorem is_table (closing_of table.by_family theorem.family) refl
 
 -- theorems have right blocks
-pub right_blocks : (file : SmallFile) (table : Closings) (theorems : List SmallTheorem) → IsFlat file → IsTable file table → (verdicts : List Verdict) × (blocks : List ℕ) × AreBlocks file theorems verdicts blocks
-right_blocks file table [] flat is_table = ([], [], nothing)
-right_blocks file table (theorem ∷ theorems) flat is_table =
-    let block = right_block file table theorem flat is_table in
-    let blocks = right_blocks file table theorems flat is_table in
+pub right_blocks : (file : SmallFile) (table : Closings) (theorems : List SmallTheorem) → IsTable file table → (verdicts : List Verdict) × (blocks : List ℕ) × AreBlocks file theorems verdicts blocks
+right_blocks file table [] is_table = ([], [], nothing)
+right_blocks file table (theorem ∷ theorems) is_table =
+    let block = right_block file table theorem is_table in
+    let blocks = right_blocks file table theorems is_table in
     (block.0 ∷ blocks.0, block.1 ++ blocks.1, next theorem theorems block.0 blocks.0 block.1 blocks.1 (block.1 ++ blocks.1) block.2 blocks.2 refl)
 
 -- right blocks one after another are right blocks
@@ -83,10 +84,10 @@ WritesBlocks-push file ts t held middle after status more is_proved w b is = rec
 
 -- a front of one more block is a front of all of them
 pub WritesBlocksFront-at : (file : SmallFile) (table : Closings) (ts us all : List SmallTheorem) (t : SmallTheorem) (held middle after : Option (List ℕ)) (status : Status) →
-    IsFlat file → IsTable file table → (ts ++ t ∷ []) ++ us ≡ all →
+    IsTable file table → (ts ++ t ∷ []) ++ us ≡ all →
     WritesBlocks file ts held middle status → WritesBlockFront file t middle after → WritesBlocksFront file all held after
-WritesBlocksFront-at file table ts us all t held middle after status flat is_table parts w f =
-    let rest = right_blocks file table us flat is_table in
+WritesBlocksFront-at file table ts us all t held middle after status is_table parts w f =
+    let rest = right_blocks file table us is_table in
     let so_far = AreBlocks-append file ts (t ∷ []) w.verdicts (f.0 ∷ []) w.blocks f.1 w.are_blocks (AreBlocks-one file t f.0 f.1 f.2) in (
       (w.verdicts ++ f.0 ∷ []) ++ rest.0,
       (w.blocks ++ f.1) ++ rest.1,
@@ -115,10 +116,10 @@ WritesDocument-whole file held first middle after status a w z = (
   Appends-trans held middle after (first_line ++ w.blocks) last_line (Appends-trans held first middle first_line w.blocks a w.taken) z,
 )
 
-pub WritesDocumentFront-first : (file : SmallFile) (table : Closings) (held after : Option (List ℕ)) → IsFlat file → IsTable file table →
+pub WritesDocumentFront-first : (file : SmallFile) (table : Closings) (held after : Option (List ℕ)) → IsTable file table →
     AppendsFront held after first_line → WritesDocumentFront file held after
-WritesDocumentFront-first file table held after flat is_table f =
-    let blocks = right_blocks file table file.theorems flat is_table in (
+WritesDocumentFront-first file table held after is_table f =
+    let blocks = right_blocks file table file.theorems is_table in (
       status_of blocks.0,
       (first_line ++ blocks.1) ++ last_line,
       record { verdicts = blocks.0; blocks = blocks.1; are_blocks = blocks.2; text_is = refl; status_is = refl },

@@ -3,11 +3,12 @@ use Rattle.std.specs.Prelude.{◌≡◌, ℕ, ◌≤◌, ◌⊎◌, length, List
 use Rattle.std.specs.Io.KnownBytes.{Keeps, Appends}
 use Rattle.run_io.specs.Moves.{TakesAll, TakesAtMost, TakesMoreThan, AppendsFront}
 use Rattle.small_files.specs.declared.small.SmallFile.{SmallFile}
-use Rattle.small_files.specs.FlatFile.{IsFlatFile, IsNoFlatFile}
+use Rattle.small_files.specs.SmallFiles.{IsSmallFile, IsNoSmallFile}
 use Rattle.aesop_session.specs.declared.status.Status.{Status}
 use Rattle.aesop_session.specs.declared.status.Status.TheVariants.{AllProved, SomeStuck, FileRefused, Usage, ReadFault, WriteFault, NoMemory}
 use Rattle.aesop_session.specs.Commands.{IsProve}
-use Rattle.aesop_session.specs.Documents.{line, IsDocument}
+use Rattle.small_answers.specs.Texts.{line}
+use Rattle.aesop_session.specs.Documents.{IsDocument}
 
 abbrev pub usage_line : List ℕ
 usage_line = line (codes "usage: aesop prove [--workers N] [--budget N] [--trace] | check | gen N | big N")
@@ -19,19 +20,19 @@ unsupported_line = line (codes "refused at 0: unsupported")
 abbrev pub most_bytes : ℕ
 most_bytes = 4194304
 
--- What was read is a flat file, and this one.
+-- What was read is a small file, and this one.
 abbrev pub TakesFile : (left later : Option (List ℕ)) → SmallFile → Type 0
-TakesFile left later file = (input : List ℕ) × TakesAll left later input × (length input ≤ most_bytes) × IsFlatFile input file
+TakesFile left later file = (input : List ℕ) × TakesAll left later input × (length input ≤ most_bytes) × IsSmallFile input file
 
--- What was read is a flat file, and the text is a right document for it.
+-- What was read is a small file, and the text is a right document for it.
 pub record AnswersFile (left later : Option (List ℕ)) (status : Status) (text : List ℕ) : Type 0 where
   pub file : SmallFile
   pub taken : TakesFile left later file
   pub document : IsDocument file status text
 
--- What was read is no flat file, or more than the limit.
+-- What was read is no small file, or more than the limit.
 abbrev pub RefusesFile : Option (List ℕ) → Option (List ℕ) → Type 0
-RefusesFile left later = ((input : List ℕ) × TakesAll left later input × IsNoFlatFile input) ⊎ TakesMoreThan most_bytes left later
+RefusesFile left later = ((input : List ℕ) × TakesAll left later input × IsNoSmallFile input) ⊎ TakesMoreThan most_bytes left later
 
 -- The text is the whole answer of this status to the words, where the source had the one left before and has
 -- the other left after.

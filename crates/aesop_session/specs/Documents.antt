@@ -1,18 +1,16 @@
--- The text of right answers to a flat file.
+-- The text of right answers to a small file.
 use Rattle.std.specs.Prelude.{◌≡◌, ℕ, List, [], ◌∷◌, ◌++◌, codes, Bool, true, false, Option}
 use Rattle.std.specs.Io.KnownBytes.{Appends}
 use Rattle.run_io.specs.Moves.{AppendsFront}
+use Rattle.lf_definitions.specs.Syntax.{LfTerm, no_args, arg}
 use Rattle.small_files.specs.declared.small.SmallFile.{SmallFile}
-use Rattle.small_files.specs.declared.small.SmallConst.{SmallConst}
-use Rattle.small_files.specs.declared.small.SmallRule.{SmallRule}
+use Rattle.small_files.specs.Names.{constant_names, rule_names}
 use Rattle.small_files.specs.declared.small.SmallTheorem.{SmallTheorem}
 use Rattle.aesop_session.specs.declared.status.Status.{Status}
 use Rattle.aesop_session.specs.declared.status.Status.TheVariants.{AllProved, SomeStuck}
-use Rattle.small_search.specs.Derivations.{IsRule, Derivation, HasNoDerivation}
-
--- these bytes and a line feed
-abbrev pub line : List ℕ → List ℕ
-line bytes = bytes ++ 10 ∷ []
+use Rattle.small_search.specs.Derivations.{HasNoDerivation}
+use Rattle.small_search.specs.DerivationTerms.{HasTerms}
+use Rattle.small_answers.specs.Texts.{line, term_text, script_text}
 
 abbrev pub first_line : List ℕ
 first_line = line (codes "aesop 1 budget 1000")
@@ -29,22 +27,20 @@ abbrev pub verdict_of : (is_proved : Bool) → Verdict
 verdict_of true = proved
 verdict_of false = stuck
 
--- the block of a theorem that one rule closes with its constant
-abbrev pub proved_text : (theorem constant rule : List ℕ) → List ℕ
-proved_text theorem constant rule =
-    line (codes "theorem " ++ theorem ++ codes " proved") ++ line (codes "term " ++ constant) ++ line (codes "step unsafe " ++ rule)
+-- the block of a theorem with a term and a script
+abbrev pub proved_text : (theorem term script : List ℕ) → List ℕ
+proved_text theorem term script =
+    line (codes "theorem " ++ theorem ++ codes " proved") ++ line (codes "term " ++ term) ++ script
 
 abbrev pub stuck_text : (theorem : List ℕ) → List ℕ
 stuck_text theorem = line (codes "theorem " ++ theorem ++ codes " stuck")
 
--- The block says that the theorem has a derivation: one rule, which leaves no goal, and the constant as the term.
+-- The block says that the theorem has a derivation, with its term and a step for each of its choices.
 pub record IsProvedBlock (file : SmallFile) (theorem : SmallTheorem) (text : List ℕ) : Type 0 where
-  pub number : ℕ
-  pub rule : SmallRule
-  pub constant : SmallConst
-  pub is_rule : IsRule file number rule constant
-  pub derivation : Derivation file (theorem.family ∷ []) (number ∷ [])
-  pub text_is : text ≡ proved_text theorem.name constant.name rule.name
+  pub numbers : List ℕ
+  pub term : LfTerm
+  pub has_terms : HasTerms file (theorem.family ∷ []) numbers (arg term no_args)
+  pub text_is : text ≡ proved_text theorem.name (term_text (constant_names file.constants) term) (script_text (rule_names file.rules) numbers)
 
 -- The block says that the theorem has no derivation.
 pub record IsStuckBlock (file : SmallFile) (theorem : SmallTheorem) (text : List ℕ) : Type 0 where
@@ -76,6 +72,10 @@ pub record IsDocument (file : SmallFile) (status : Status) (text : List ℕ) : T
   pub are_blocks : AreBlocks file file.theorems verdicts blocks
   pub text_is : text ≡ first_line ++ blocks ++ last_line
   pub status_is : status ≡ status_of verdicts
+
+-- These bytes are added, and are a right block that says that the theorem is proved.
+abbrev pub AddsProvedBlock : SmallFile → SmallTheorem → (old new : List ℕ) → Type 0
+AddsProvedBlock file theorem old new = (text : List ℕ) × IsProvedBlock file theorem text × (new ≡ old ++ text)
 
 -- These bytes are added, and are the theorem's block, with this verdict.
 abbrev pub AddsBlock : SmallFile → SmallTheorem → (old new : List ℕ) → Bool → Type 0

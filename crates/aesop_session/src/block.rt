@@ -1,35 +1,40 @@
 //! The text of a theorem's block.
 
-ghost use Rattle.std.specs.Prelude.{◌≡◌, ◌++◌, IfOk, OnOk};
-ghost use Rattle.small_files.specs.FlatFile.{IsFlat};
-ghost use Rattle.small_search.specs.Closings.{IsTable};
-ghost use Rattle.aesop_session.specs.Documents.{proved_text, stuck_text, AddsBlock};
+ghost use Rattle.std.specs.Prelude.{◌≡◌, ◌++◌, IfOk, OnOk, IsSome};
+ghost use Rattle.small_search.specs.Closings.{closing_of, IsTable};
+ghost use Rattle.small_answers.specs.Lengths.{IsProofs};
+ghost use Rattle.aesop_session.specs.Documents.{stuck_text, AddsBlock, AddsProvedBlock};
 
+use lf_terms::{Bytes, Ids, NoMemory};
+use small_answers::{Proofs, append_numbers, append_script, append_term};
 use small_files::{SmallFile, SmallTheorem};
-use lf_terms::{Bytes, NoMemory};
 use small_search::Table;
+use std::alloc::Global;
 
-/// Adds the block of a theorem at the end, and answers whether the theorem is proved.
+/// A block of so many bytes or more is want of memory.
+const MOST: u64 = 1 << 31;
+
+/// How many bytes a proved block has beside the names and the texts: those of its words.
+const WORDS: u64 = 22;
+
+/// Adds the block of a theorem at the end, and answers whether the theorem is proved. A block that
+/// would be too long is want of memory before any of it is made.
 pub(crate) fn append_block(
+    alloc: Global,
     out: &mut Bytes,
     file: &SmallFile,
-    table: &Table,
+    proofs: &Proofs,
     theorem: &SmallTheorem,
 ) -> Result<bool, NoMemory>
-    requires table { IsTable file.now table.now }
-    requires flat { IsFlat file.now }
+    requires { IsProofs file.now proofs.now }
     ensures { IfOk result (AddsBlock file.now theorem.now out.old out.new) }
 {
-    match table.closing(theorem.family) {
-        Some(closing) => {
-            let rule = &file.rules.as_slice()[closing.rule as usize - 2];
-            let constant = &file.constants.as_slice()[rule.constant as usize];
-            append_proved(
-                out,
-                theorem.name.as_bytes(),
-                constant.name.as_bytes(),
-                rule.name.as_bytes(),
-            )?;
+    match proofs.length(theorem.family) {
+        Some(length) => {
+            if is_too_long(theorem.name.as_bytes(), length.term, length.script) {
+                return Err(NoMemory);
+            }
+            append_proved(alloc, out, file, &proofs.table, theorem)?;
             Ok(true)
         }
         None => {
@@ -39,22 +44,32 @@ pub(crate) fn append_block(
     }
 }
 
-/// Adds the block of a theorem that a rule closes with its constant.
+/// Whether a proved block would be too long, by its name and the lengths of its texts.
+fn is_too_long(name: &[u8], term: u32, script: u32) -> bool {
+    let texts = u64::from(term) + u64::from(script);
+    name.len() as u64 >= MOST || texts + name.len() as u64 + WORDS >= MOST
+}
+
+/// Adds the block of a theorem that the table closes.
 fn append_proved(
+    alloc: Global,
     out: &mut Bytes,
-    theorem: &[u8],
-    constant: &[u8],
-    rule: &[u8],
+    file: &SmallFile,
+    table: &Table,
+    theorem: &SmallTheorem,
 ) -> Result<(), NoMemory>
-    ensures { OnOk result (out.new ≡ out.old ++ proved_text theorem.now constant.now rule.now) }
+    requires table { IsTable file.now table.now }
+    requires closed { IsSome (closing_of table.now.by_family theorem.now.family) }
+    ensures { OnOk result (AddsProvedBlock file.now theorem.now out.old out.new) }
 {
+    let mut numbers = Ids::new(alloc);
+    append_numbers(&mut numbers, file, table, theorem.family)?;
     out.append(b"theorem ")?;
-    out.append(theorem)?;
+    out.append(theorem.name.as_bytes())?;
     out.append(b" proved\nterm ")?;
-    out.append(constant)?;
-    out.append(b"\nstep unsafe ")?;
-    out.append(rule)?;
+    append_term(out, file, table, theorem.family)?;
     out.append(b"\n")?;
+    append_script(out, file, numbers.as_slice())?;
     Ok(())
 }
 

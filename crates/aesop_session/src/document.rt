@@ -4,8 +4,7 @@ ghost use Rattle.std.specs.Prelude.{◌≡◌, ◌≤◌, ◌⊎◌, IfOk, OnOk,
 ghost use Rattle.std.specs.Io.KnownBytes.{Appends};
 ghost use Rattle.run_io.specs.Causes.{Rose};
 ghost use Rattle.run_io.specs.Moves.{AppendsFront};
-ghost use Rattle.small_files.specs.FlatFile.{IsFlat};
-ghost use Rattle.small_search.specs.Closings.{IsTable};
+ghost use Rattle.small_answers.specs.Lengths.{IsProofs};
 ghost use Rattle.aesop_session.specs.Documents.{WritesBlock, WritesBlockFront, WritesBlocks, WritesBlocksFront, WritesDocument, WritesDocumentFront};
 
 use crate::block::append_block;
@@ -13,7 +12,7 @@ use crate::status::Status;
 use small_files::{SmallFile, SmallTheorem};
 use lf_terms::{Bytes, NoMemory};
 use run_io::{Sink, WriteEnd, write_piece};
-use small_search::Table;
+use small_answers::Proofs;
 use std::alloc::Global;
 
 /// Why a text was not written whole.
@@ -54,14 +53,14 @@ pub(crate) fn write_text<K: Sink>(sink: &mut K, bytes: &[u8]) -> Result<(), Stop
 
 /// Answers a theorem: whether it is proved. Its block is written as one piece.
 fn answer_theorem<K: Sink>(
+    alloc: Global,
     block: &mut Bytes,
     file: &SmallFile,
-    table: &Table,
+    proofs: &Proofs,
     theorem: &SmallTheorem,
     sink: &mut K,
 ) -> Result<bool, Stop>
-    requires table { IsTable file.now table.now }
-    requires flat { IsFlat file.now }
+    requires { IsProofs file.now proofs.now }
     ensures ok { IfOk result (WritesBlock file.now theorem.now (K.held sink.old) (K.held sink.new)) }
     ensures err { OnErr result (WritesBlockFront file.now theorem.now (K.held sink.old) (K.held sink.new)) }
     ensures cause { IsErrOf result Stop.Write →
@@ -70,7 +69,7 @@ fn answer_theorem<K: Sink>(
     ensures zeros_later { K.zeros sink.old ≤ K.zeros sink.new }
 {
     block.clear();
-    let is_proved = match append_block(block, file, table, theorem) {
+    let is_proved = match append_block(alloc, block, file, proofs, theorem) {
         Ok(is_proved) => is_proved,
         Err(_) => return Err(Stop::NoMemory),
     };
@@ -84,11 +83,10 @@ fn answer_theorem<K: Sink>(
 fn write_blocks<K: Sink>(
     alloc: Global,
     file: &SmallFile,
-    table: &Table,
+    proofs: &Proofs,
     sink: &mut K,
 ) -> Result<Status, Stop>
-    requires table { IsTable file.now table.now }
-    requires flat { IsFlat file.now }
+    requires { IsProofs file.now proofs.now }
     ensures ok { IfOk result (WritesBlocks file.now file.now.theorems (K.held sink.old) (K.held sink.new)) }
     ensures err { OnErr result (WritesBlocksFront file.now file.now.theorems (K.held sink.old) (K.held sink.new)) }
     ensures cause { IsErrOf result Stop.Write →
@@ -99,7 +97,7 @@ fn write_blocks<K: Sink>(
     let mut block = Bytes::new(alloc);
     let mut status = Status::AllProved;
     for theorem in file.theorems.as_slice() {
-        match answer_theorem(&mut block, file, table, theorem, sink) {
+        match answer_theorem(alloc, &mut block, file, proofs, theorem, sink) {
             Ok(is_proved) => status = status_after(status, is_proved),
             Err(stop) => return Err(stop),
         }
@@ -119,11 +117,10 @@ fn status_after(status: Status, is_proved: bool) -> Status
 pub(crate) fn write_document<K: Sink>(
     alloc: Global,
     file: &SmallFile,
-    table: &Table,
+    proofs: &Proofs,
     sink: &mut K,
 ) -> Result<Status, Stop>
-    requires table { IsTable file.now table.now }
-    requires flat { IsFlat file.now }
+    requires { IsProofs file.now proofs.now }
     ensures ok { IfOk result (WritesDocument file.now (K.held sink.old) (K.held sink.new)) }
     ensures err { OnErr result (WritesDocumentFront file.now (K.held sink.old) (K.held sink.new)) }
     ensures cause { IsErrOf result Stop.Write →
@@ -134,7 +131,7 @@ pub(crate) fn write_document<K: Sink>(
     if let Err(stop) = write_text(sink, b"aesop 1 budget 1000\n") {
         return Err(stop);
     }
-    let status = match write_blocks(alloc, file, table, sink) {
+    let status = match write_blocks(alloc, file, proofs, sink) {
         Ok(status) => status,
         Err(stop) => return Err(stop),
     };

@@ -3,7 +3,7 @@
 ghost use Rattle.std.specs.Prelude.{◌≡◌, ◌≤◌, IfOk, IsErrOf};
 ghost use Rattle.run_io.specs.Causes.{Rose};
 ghost use Rattle.run_io.specs.Moves.{TakesAtMost};
-ghost use Rattle.small_files.specs.FlatFile.{IsFlat};
+ghost use Rattle.small_files.specs.SmallFiles.{IsNumbered};
 ghost use Rattle.aesop_session.specs.Answers.{TakesFile, RefusesFile, most_bytes};
 
 use small_files::{SmallFault, SmallFile, small_file};
@@ -26,7 +26,7 @@ pub(crate) enum NoFile {
 /// Reads the input to its end, and the file that it is.
 pub(crate) fn read_file<S: Source>(alloc: Global, source: &mut S) -> Result<SmallFile, NoFile>
     ensures file { IfOk result (TakesFile (S.left source.old) (S.left source.new)) }
-    ensures flat { IfOk result IsFlat }
+    ensures numbered { IfOk result IsNumbered }
     ensures refused { IsErrOf result NoFile.Refused → RefusesFile (S.left source.old) (S.left source.new) }
     ensures fault { IsErrOf result NoFile.Fault → Rose (S.faults source.old) (S.faults source.new) }
     ensures fault_takes { IsErrOf result NoFile.Fault → TakesAtMost most_bytes (S.left source.old) (S.left source.new) }

@@ -1,5 +1,5 @@
 //! The top call: it reads a file, searches a proof of each theorem and writes the answers.
-//! It stands on `small_files` for files, on `small_search` for the search and on `run_io` for the
+//! It stands on `small_files` for files, on `small_answers` for the search and the texts, and on `run_io` for the
 //! outside.
 //! Proved: what each status of `run_still` says of the words, the bytes that were read and the
 //! bytes that were written.

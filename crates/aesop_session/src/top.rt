@@ -3,7 +3,7 @@
 ghost use Rattle.std.specs.Prelude.{◌≡◌, ◌≤◌, ◌⊎◌, Option, Some, List, ℕ};
 ghost use Rattle.run_io.specs.Causes.{Rose};
 ghost use Rattle.small_files.specs.declared.small.SmallFile.{SmallFile};
-ghost use Rattle.small_files.specs.FlatFile.{IsFlat, IsFlatFile};
+ghost use Rattle.small_files.specs.SmallFiles.{IsNumbered, IsSmallFile};
 ghost use Rattle.aesop_session.specs.Commands.{IsProve, prove_words};
 ghost use Rattle.aesop_session.specs.Answers.{Answered, IsAnswer, TakesFile, RefusesFile, Served};
 ghost use Rattle.aesop_session.specs.declared.status.Status.{Status};
@@ -15,7 +15,7 @@ use crate::status::Status;
 use small_files::SmallFile;
 use lf_terms::Words;
 use run_io::{Sink, Source};
-use small_search::search;
+use small_answers::Proofs;
 use std::alloc::Global;
 
 /// Does what the words say. It waits for nobody and returns.
@@ -41,8 +41,8 @@ pub fn run_still<S: Source, K: Sink>(
     // Other words read nothing.
     ensures reads_nothing { (IsProve words.now → ⊥) → source.new ≡ source.old }
 
-    // A flat file is answered where nothing fails, unless memory runs out.
-    ensures complete { (input : List ℕ) (file : SmallFile) → IsProve words.now → S.left source.old ≡ Some input → IsFlatFile input file →
+    // A small file is answered where nothing fails, unless memory runs out.
+    ensures complete { (input : List ℕ) (file : SmallFile) → IsProve words.now → S.left source.old ≡ Some input → IsSmallFile input file →
         (Rose (S.faults source.old) (S.faults source.new) → ⊥) →
         (Rose (K.faults sink.old) (K.faults sink.new) → ⊥) → (Rose (K.zeros sink.old) (K.zeros sink.new) → ⊥) → Served result }
 {
@@ -88,7 +88,7 @@ fn say_refused<K: Sink>(sink: &mut K) -> Status
 
 /// Proves the theorems of a file and writes the answers.
 fn answer<K: Sink>(alloc: Global, file: &SmallFile, sink: &mut K) -> Status
-    requires { IsFlat file.now }
+    requires { IsNumbered file.now }
     ensures answered { (left : Option (List ℕ)) (later : Option (List ℕ)) → TakesFile left later file.now →
         Answered prove_words left later (K.held sink.old) (K.held sink.new) result }
     ensures no_read_fault { result ≡ Status.ReadFault → ⊥ }
@@ -97,11 +97,11 @@ fn answer<K: Sink>(alloc: Global, file: &SmallFile, sink: &mut K) -> Status
     ensures faults_later { K.faults sink.old ≤ K.faults sink.new }
     ensures zeros_later { K.zeros sink.old ≤ K.zeros sink.new }
 {
-    let table = match search(alloc, file) {
-        Ok(table) => table,
+    let proofs = match Proofs::of_file(alloc, file) {
+        Ok(proofs) => proofs,
         Err(_) => return Status::NoMemory,
     };
-    match write_document(alloc, file, &table, sink) {
+    match write_document(alloc, file, &proofs, sink) {
         Ok(status) => status,
         Err(Stop::Write) => Status::WriteFault,
         Err(Stop::NoMemory) => Status::NoMemory,

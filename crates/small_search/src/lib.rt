@@ -14,11 +14,7 @@ mod waiting;
 mod worklist;
 
 pub use closing::Closing;
-<<<<<<< HEAD
-=======
 pub use constants::constant_at;
-pub use numbered::is_numbered;
->>>>>>> 6ef07e0 (small_answers: the numbers of a derivation, and the texts of its term and its script, from the table of a search)
 pub use table::Table;
 pub use worklist::search;
 

@@ -12,7 +12,7 @@ loop-theorem-init g c = record {
 
 pub returns-in-Err-clause-err : goal.returns-in-Err-clause-err
 returns-in-Err-clause-err g c =
-    WritesBlocksFront-at _ _ _ _ _ _ _ _ _ _ c.requires.flat c.requires.table
+    WritesBlocksFront-at _ _ _ _ _ _ _ _ _ _ c.requires.table
     (parts_at _ _ _ _ c.as_slice-theorem-items.ensures c.loop-theorem-test.true c.theorem-item.is)
     c.loop-theorem.invariant.written c.in-Err.ensures.err
 

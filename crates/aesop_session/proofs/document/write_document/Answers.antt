@@ -2,7 +2,7 @@ use Rattle.aesop_session.proofs.Completion.{WritesDocument-whole, WritesDocument
 use Rattle.aesop_session.proofs.document.write_document.Goals as goal
 
 pub returns-in-Err-clause-err : goal.returns-in-Err-clause-err
-returns-in-Err-clause-err g c = WritesDocumentFront-first _ _ _ _ c.requires.flat c.requires.table c.in-Err.ensures.err
+returns-in-Err-clause-err g c = WritesDocumentFront-first _ _ _ _ c.requires.table c.in-Err.ensures.err
 
 pub returns-in-Err-write_blocks-clause-err : goal.returns-in-Err-write_blocks-clause-err
 returns-in-Err-write_blocks-clause-err g c = WritesDocumentFront-blocks _ _ _ _ c.in_default.ensures.ok c.in-Err-write_blocks.ensures.err

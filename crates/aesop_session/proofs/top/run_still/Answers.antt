@@ -3,8 +3,8 @@ use Rattle.aesop_session.proofs.Answering.{Answered-served, refuted}
 use Rattle.aesop_session.proofs.top.run_still.Goals as goal
 
 pub returns-then-is_prove-clause-complete : goal.returns-then-is_prove-clause-complete
-returns-then-is_prove-clause-complete g c = λ input file is_prove tells flat no_read no_fault no_zero.
-    Answered-served _ input _ _ _ _ file tells flat c.prove.ensures.answered (λ e. no_read (c.prove.ensures.read_fault e))
+returns-then-is_prove-clause-complete g c = λ input file is_prove tells small no_read no_fault no_zero.
+    Answered-served _ input _ _ _ _ file tells small c.prove.ensures.answered (λ e. no_read (c.prove.ensures.read_fault e))
     (λ e. elim (c.prove.ensures.write_fault e) [ inl fault ↦ no_fault fault | inr zero ↦ no_zero zero ])
 
 pub returns-else-is_prove-clause-answered : goal.returns-else-is_prove-clause-answered
