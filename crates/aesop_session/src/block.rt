@@ -29,8 +29,9 @@ pub(crate) fn append_block(
     requires { IsProofs file.now proofs.now }
     ensures { IfOk result (AddsBlock file.now theorem.now out.old out.new) }
 {
-    match proofs.length(theorem.family) {
-        Some(length) => {
+    match proofs.table.closing(theorem.family) {
+        Some(closing) => {
+            let length = proofs.lengths[closing.rank as usize];
             if is_too_long(theorem.name.as_bytes(), length.term, length.script) {
                 return Err(NoMemory);
             }

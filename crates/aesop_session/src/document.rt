@@ -9,10 +9,10 @@ ghost use Rattle.aesop_session.specs.Documents.{WritesBlock, WritesBlockFront, W
 
 use crate::block::append_block;
 use crate::status::Status;
-use small_files::{SmallFile, SmallTheorem};
 use lf_terms::{Bytes, NoMemory};
 use run_io::{Sink, WriteEnd, write_piece};
 use small_answers::Proofs;
+use small_files::{SmallFile, SmallTheorem};
 use std::alloc::Global;
 
 /// Why a text was not written whole.

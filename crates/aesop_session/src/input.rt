@@ -6,8 +6,8 @@ ghost use Rattle.run_io.specs.Moves.{TakesAtMost};
 ghost use Rattle.small_files.specs.SmallFiles.{IsNumbered};
 ghost use Rattle.aesop_session.specs.Answers.{TakesFile, RefusesFile, most_bytes};
 
-use small_files::{SmallFault, SmallFile, small_file};
 use run_io::{ReadEnd, Source, read_all};
+use small_files::{SmallFault, SmallFile, small_file};
 use std::alloc::Global;
 
 const MOST_BYTES: u32 = 4_194_304;

@@ -13,6 +13,8 @@ pub mod status;
 #[cfg(test)]
 mod tests;
 mod top;
+pub mod verdict;
 
 pub use status::Status;
 pub use top::run_still;
+pub use verdict::{SmallVerdict, prove_small};

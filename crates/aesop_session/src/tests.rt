@@ -1,8 +1,10 @@
 //! Worked rows, over sources and sinks in memory.
 
-use crate::run_still;
-use lf_terms::{Bytes, Ids, Name, NoMemory, Words};
+use crate::{SmallVerdict, prove_small, run_still};
+use lf_terms::same::same;
+use lf_terms::{Bytes, Head, Ids, Name, NoMemory, Term, Terms, Words};
 use run_io::{MemorySink, MemorySource, SureSink, SureSource};
+use small_files::small_file;
 use std::alloc::Global;
 use std::test::Fail;
 
@@ -25,6 +27,9 @@ family p : type. theorem t : p. => 1 => aesop 1 budget 1000 / theorem t stuck / 
 family p : type. family q : type. const a : p. rule r : unsafe 0 apply a. theorem t : p. theorem u : q. => 1 => aesop 1 budget 1000 / theorem t proved / term a / step unsafe r / theorem u stuck / end
 family p : type. const a : p. rule r : unsafe -0 apply a. rule s : unsafe 0100 apply a. theorem t : p. => 0 => aesop 1 budget 1000 / theorem t proved / term a / step unsafe r / end
 family rule : type. const unsafe : rule. rule apply : unsafe 1 apply unsafe. theorem theorem : rule. => 0 => aesop 1 budget 1000 / theorem theorem proved / term unsafe / step unsafe apply / end
+family p : type. family q : type. family r : type. const f : q -> p. const g : r -> p. const c : r. rule f : unsafe 80 apply f. rule g : unsafe 20 apply g. rule c : unsafe 100 apply c. theorem t : p. => 0 => aesop 1 budget 1000 / theorem t proved / term g c / step unsafe g / step unsafe c / end
+family p : type. const l : p -> p. rule l : unsafe 100 apply l. theorem t : p. => 1 => aesop 1 budget 1000 / theorem t stuck / end
+family a : type. family b : type. family c : type. const z : a. const s : a -> a -> b. const k : b -> a -> b -> c. rule z1 : unsafe 1 apply z. rule s1 : unsafe 1 apply s. rule k1 : unsafe 1 apply k. theorem t : c. theorem u : b. => 0 => aesop 1 budget 1000 / theorem t proved / term k (s z z) z (s z z) / step unsafe k1 / step unsafe s1 / step unsafe z1 / step unsafe z1 / step unsafe z1 / step unsafe s1 / step unsafe z1 / step unsafe z1 / theorem u proved / term s z z / step unsafe s1 / step unsafe z1 / step unsafe z1 / end
 family p : type. theorem t : p -> p. => 3 => refused at 0: unsupported
 family p : type. const a : p. rule r : safe 50 apply a. => 3 => refused at 0: unsupported
 family p : type. const a : p. rule r : unsafe 101 apply a. => 3 => refused at 0: unsupported
@@ -37,6 +42,16 @@ family type : type. => 3 => refused at 0: unsupported
 family p : type => 3 => refused at 0: unsupported
 family p # type. => 3 => refused at 0: unsupported
 family \u{e9} : type. => 3 => refused at 0: unsupported"
+}
+
+/// A family with two rules, of which one leads nowhere.
+fn two_ways() -> &'static str {
+    "family p : type. family q : type. family r : type. const f : q -> p. const g : r -> p. const c : r. rule f : unsafe 80 apply f. rule g : unsafe 20 apply g. rule c : unsafe 100 apply c. theorem t : p."
+}
+
+/// A rule that leaves its own goal.
+fn loops() -> &'static str {
+    "family p : type. const l : p -> p. rule l : unsafe 100 apply l. theorem t : p."
 }
 
 fn usage() -> &'static str {
@@ -64,6 +79,44 @@ fn lines_of(alloc: Global, text: &str) -> Result<Bytes, NoMemory> {
         lines.push(b'\n')?;
     }
     Ok(lines)
+}
+
+/// A file of so many rules: each family but the first is left to the one before it, as many times as
+/// is said, and the theorem is of the last.
+fn chain_of(alloc: Global, count: u32, times: u32) -> Result<Bytes, Fail> {
+    let mut file = Bytes::new(alloc);
+    file.append(b"family p0 : type. const c0 : p0. rule r0 : unsafe 50 apply c0. ")?;
+    for i in 1..count {
+        file.append(format!(in alloc; "family p{i} : type. const c{i} : ")?.as_bytes())?;
+        for _ in 0..times {
+            file.append(format!(in alloc; "p{} -> ", i - 1)?.as_bytes())?;
+        }
+        file.append(format!(in alloc; "p{i}. rule r{i} : unsafe 50 apply c{i}. ")?.as_bytes())?;
+    }
+    file.append(format!(in alloc; "theorem t : p{}.", count.saturating_sub(1))?.as_bytes())?;
+    Ok(file)
+}
+
+/// How many lines there are.
+fn lines_in(text: &[u8]) -> usize {
+    text.iter().filter(|byte| **byte == b'\n').count()
+}
+
+/// The verdict of the only theorem of a file: its numbers, and whether its term is this one.
+fn verdict_of(alloc: Global, text: &str, term: &Term) -> Result<(Ids, bool), Fail> {
+    let file = small_file(alloc, text.as_bytes()).ok().ok_or("no file")?;
+    if file.theorems.len() != 1 {
+        return Ok((Ids::new(alloc), false));
+    }
+    match prove_small(alloc, &file, 0)? {
+        SmallVerdict::Proved(proof, numbers) => Ok((numbers, same(&proof, term))),
+        SmallVerdict::Stuck => Ok((Ids::new(alloc), false)),
+    }
+}
+
+/// The term that is a constant with these arguments.
+fn term_by(alloc: Global, constant: u32, args: Vec<Term>) -> Result<Term, NoMemory> {
+    Ok(Term::At(Head::Const(constant), Terms::from_vec(alloc, args)?))
 }
 
 /// The status of the file over a source with pieces of 7 and a sink with pieces of 5, and what the sink holds.
@@ -101,7 +154,7 @@ fn one_of(alloc: Global, id: u32) -> Result<Ids, NoMemory> {
 fn sure_answer(alloc: Global, line: &str, bytes: Bytes) -> Result<(u8, Bytes, usize), NoMemory> {
     let words = words_of(alloc, line)?;
     let mut source = SureSource::new(bytes);
-    let mut sink = SureSink::with_room(alloc, 100)?;
+    let mut sink = SureSink::with_room(alloc, 1 << 20)?;
     let status = run_still(alloc, &words, &mut source, &mut sink);
     let held = Bytes::from_slice(alloc, sink.held())?;
     Ok((status.code(), held, source.left().len()))
@@ -117,6 +170,35 @@ fn files_are_answered(rt: HostRuntime) -> Result<(), Fail> {
         assert_eq!(rt; code, status.parse::<u8>()?, "{row}");
         let expected = lines_of(alloc, answer)?;
         assert_eq!(rt; held.as_slice(), expected.as_slice(), "{row}");
+    }
+    Ok(())
+}
+
+#[test]
+fn long_terms_are_written_or_want_memory(rt: HostRuntime) -> Result<(), Fail> {
+    let alloc = rt.alloc();
+    for (count, times, status, lines) in [(10_000, 1, 0, 10_004), (31, 2, 8, 1)] {
+        let file = chain_of(alloc, count, times)?;
+        let (code, held, _) = sure_answer(alloc, "prove --workers 0", file)?;
+        assert_eq!(rt; code, status);
+        assert_eq!(rt; lines_in(held.as_slice()), lines);
+    }
+    Ok(())
+}
+
+#[test]
+fn theorems_have_their_verdicts(rt: HostRuntime) -> Result<(), Fail> {
+    let alloc = rt.alloc();
+    let mut args = Vec::new(alloc);
+    args.push(term_by(alloc, 2, Vec::new(alloc))?)?;
+    let term = term_by(alloc, 1, args)?;
+    for (text, steps, is_same) in [
+        (two_ways(), [3, 4].as_slice(), true),
+        (loops(), [].as_slice(), false),
+    ] {
+        let (numbers, has_term) = verdict_of(alloc, text, &term)?;
+        assert_eq!(rt; numbers.as_slice(), steps);
+        assert_eq!(rt; has_term, is_same);
     }
     Ok(())
 }

@@ -12,10 +12,10 @@ use crate::command::is_prove;
 use crate::document::{Stop, write_document, write_text};
 use crate::input::{NoFile, read_file};
 use crate::status::Status;
-use small_files::SmallFile;
 use lf_terms::Words;
 use run_io::{Sink, Source};
 use small_answers::Proofs;
+use small_files::SmallFile;
 use std::alloc::Global;
 
 /// Does what the words say. It waits for nobody and returns.

@@ -1,2 +1,5 @@
 pub mod TableTerms
 pub mod TermTexts
+pub mod Ranks
+pub mod LengthSums
+pub mod Copies

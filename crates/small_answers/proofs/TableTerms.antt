@@ -1,5 +1,5 @@
 -- A table gives numbers and terms for each family that it closes, in one way, and they are those of a derivation.
-use Rattle.std.proofs.Common.{◌≡◌, ℕ, zero, suc, ◌+◌, ◌<◌, ◌≤◌, List, [], ◌∷◌, ◌++◌, length, Option, Some, All, slice_get, refl, sym, subst, ap, ◌∙◌, arith, append_assoc, append-nil}
+use Rattle.std.proofs.Common.{◌≡◌, ℕ, zero, suc, ◌<◌, List, [], ◌∷◌, ◌++◌, length, Option, Some, All, refl, sym, subst, ap, ◌∙◌, arith, append_assoc, append-nil}
 use Rattle.std.specs.List.{AllByRecursion}
 use Rattle.std.proofs.lemmas.List.Elements.{recursion_from_All, All-nil, All-cons, All-append}
 use Rattle.std.proofs.lemmas.Option.{slice_get_within}
@@ -10,8 +10,8 @@ use Rattle.small_files.specs.declared.small.SmallRule.{SmallRule}
 use Rattle.small_search.specs.declared.closing.Closing.{Closing}
 use Rattle.small_search.specs.Derivations.{IsRule}
 use Rattle.small_search.specs.DerivationTerms.{HasTerms, no_terms, one_term}
-use Rattle.small_search.specs.Closings.{closing_of, IsClosing, IsClosings, IsClosedBelow}
-use Rattle.small_search.proofs.DerivationTerms.{HasTerms-join, HasTerms-count, IsRule-one, joined-no_args}
+use Rattle.small_search.specs.Closings.{closing_of, IsClosings, IsClosedBelow}
+use Rattle.small_search.proofs.DerivationTerms.{HasTerms-join, HasTerms-count, IsRule-one}
 use Rattle.small_answers.specs.Chosen.{IsChosen, GivesTerms, gives_none, gives_one, GivesTerm, IsRuleNumber}
 
 module _ (file : SmallFile) (closings : List (Option Closing)) where
@@ -77,7 +77,7 @@ module _ (file : SmallFile) (closings : List (Option Closing)) where
       (subst (λ (ks : List ℕ). HasTerms file (declared.binders ++ goals) ks (joined args others)) (sym parts) both)
       refl (HasTerms-count file declared.binders below args first))
 
-  is_rule_number : (rule : ℕ) (by : SmallRule) (declared : SmallConst) → IsRule file rule by declared → IsRuleNumber file rule
+  pub is_rule_number : (rule : ℕ) (by : SmallRule) (declared : SmallConst) → IsRule file rule by declared → IsRuleNumber file rule
   is_rule_number rule by declared is = record {
     two = omega (arith, is.number_is);
     within = omega (arith, is.number_is, slice_get_within file.rules is.place by is.rule_is);

@@ -1,10 +1,10 @@
 -- The texts of terms that a table gives.
-use Rattle.std.proofs.Common.{◌≡◌, ℕ, zero, suc, ◌+◌, ◌-◌, ◌<◌, ◌≤◌, List, [], ◌∷◌, ◌++◌, length, map, take, get_or, Option, Some, None, IsSome, All, Bool, true, false, nat_lt, cond, slice_get, slice_index_or, refl, sym, subst, ap, ◌∙◌, arith, append_assoc, append-nil}
+use Rattle.std.proofs.Common.{◌≡◌, ℕ, suc, ◌+◌, ◌<◌, List, [], ◌∷◌, ◌++◌, length, take, get_or, Option, Some, None, IsSome, Bool, true, false, nat_lt, slice_get, refl, sym, subst, ap, ◌∙◌, arith, append_assoc, append-nil}
 use Rattle.std.specs.Prelude.{codes, if◌then◌else◌}
-use Rattle.std.proofs.lemmas.List.{take_more, get_or-map, flat_map_more}
+use Rattle.std.proofs.lemmas.List.{get_or-map, flat_map_more}
 use Rattle.std.proofs.lemmas.Bool.{lt-ltb}
 use Rattle.std.proofs.lemmas.Option.{slice_get_within, get_or_from_slice_get}
-use Rattle.lf_definitions.specs.Syntax.{LfTerm, at, constant, Spine, no_args, arg, args_count, joined}
+use Rattle.lf_definitions.specs.Syntax.{LfTerm, at, constant, Spine, no_args, arg, joined}
 use Rattle.small_files.specs.declared.small.SmallFile.{SmallFile}
 use Rattle.small_files.specs.declared.small.SmallConst.{SmallConst}
 use Rattle.small_files.specs.declared.small.SmallRule.{SmallRule}
@@ -13,13 +13,9 @@ use Rattle.small_search.specs.declared.closing.Closing.{Closing}
 use Rattle.small_search.specs.Closings.{closing_of, IsClosedBelow}
 use Rattle.small_search.proofs.Options.{IsSome-from_some}
 use Rattle.small_answers.specs.Texts.{name_at, has_args, in_parentheses, term_text, args_text, step_line, script_text}
-use Rattle.small_answers.specs.Chosen.{IsChosen, GivesTerms, gives_none, gives_one, GivesTerm, IsRuleNumber}
+use Rattle.small_answers.specs.Chosen.{IsChosen, GivesTerms, gives_none, gives_one, GivesTerm}
 use Rattle.small_answers.specs.Additions.{AddsNumbers, AddsArgs, AddsTerm}
 use Rattle.small_answers.proofs.TableTerms.{IsChosen-one, GivesTerms-join, GivesTerms-push, GivesTerm-chosen}
-
--- the list up to a place, and the entry there
-pub take_next : (xs : List ℕ) (i x : ℕ) → i < length xs → x ≡ get_or xs i x → take (i + 1) xs ≡ take i xs ++ x ∷ []
-take_next xs i x within is = take_more xs i x within ∙ ap (λ (y : ℕ). take i xs ++ y ∷ []) (sym is)
 
 -- how many families were closed before
 abbrev pub rank_of : Option Closing → ℕ
@@ -79,11 +75,11 @@ name_of_constant constants number declared is =
     get_or-map (λ (c : SmallConst). c.name) constants number declared [] (slice_get_within constants number declared is)
     ∙ ap (λ (c : SmallConst). c.name) (get_or_from_slice_get constants number declared declared is)
 
-some_below : (n : ℕ) → nat_lt 0 (suc n) ≡ true
+pub some_below : (n : ℕ) → nat_lt 0 (suc n) ≡ true
 some_below n = lt-ltb 0 (suc n) (omega arith)
 
 -- the binders give the arguments, and so there are some where there is a binder
-args_of_binders : (file : SmallFile) (closings : List (Option Closing)) (number : ℕ) (binders below : List ℕ) (args : Spine) → GivesTerms file closings binders below args → nat_lt 0 (length binders) ≡ has_args (at (constant number) args)
+pub args_of_binders : (file : SmallFile) (closings : List (Option Closing)) (number : ℕ) (binders below : List ℕ) (args : Spine) → GivesTerms file closings binders below args → nat_lt 0 (length binders) ≡ has_args (at (constant number) args)
 args_of_binders file closings number binders below args gives_none = refl
 args_of_binders file closings number binders below args (gives_one goal rule n declared goals under rest more inner others chosen one after parts) = some_below (length goals)
 
@@ -134,24 +130,22 @@ module _ (file : SmallFile) (closings : List (Option Closing)) where
 
 -- ---- scripts
 
-name_of_rule : (rules : List SmallRule) (number place : ℕ) (rule : SmallRule) → number ≡ suc (suc place) → place < length rules → rule ≡ get_or rules place rule → name_at (rule_names rules) number ≡ rule.name
+pub name_of_rule : (rules : List SmallRule) (number place : ℕ) (rule : SmallRule) → number ≡ suc (suc place) → place < length rules → rule ≡ get_or rules place rule → name_at (rule_names rules) number ≡ rule.name
 name_of_rule rules number place rule e within is =
     ap (name_at (rule_names rules)) e
     ∙ get_or-map (λ (r : SmallRule). r.name) rules place rule [] within
     ∙ ap (λ (r : SmallRule). r.name) (sym is)
 
 -- one more step
-pub script_text-more : (file : SmallFile) (numbers start out a b new : List ℕ) (i number : ℕ) (rule : SmallRule) → IsRuleNumber file number → rule ≡ get_or file.rules (number - 2) rule →
-    i < length numbers → number ≡ get_or numbers i number →
-    out ≡ start ++ script_text (rule_names file.rules) (take i numbers) → a ≡ out ++ codes "step unsafe " → b ≡ a ++ rule.name → new ≡ b ++ 10 ∷ [] →
-    new ≡ start ++ script_text (rule_names file.rules) (take (i + 1) numbers)
-script_text-more file numbers start out a b new i number rule known is within stands done p q r =
-    let names = rule_names file.rules in
-    let named : name_at names number ≡ rule.name = name_of_rule file.rules number (number - 2) rule (omega (arith, known.two)) (omega (arith, known.two, known.within)) is in
+pub script_text-more : (names : List (List ℕ)) (numbers start out a b new : List ℕ) (i number : ℕ) →
+    take (i + 1) numbers ≡ take i numbers ++ number ∷ [] →
+    out ≡ start ++ script_text names (take i numbers) → a ≡ out ++ codes "step unsafe " → b ≡ a ++ name_at names number → new ≡ b ++ 10 ∷ [] →
+    new ≡ start ++ script_text names (take (i + 1) numbers)
+script_text-more names numbers start out a b new i number next done p q r =
+    let named = name_at names number in
     let lines : new ≡ out ++ step_line names number =
-    r ∙ ap (λ (t : List ℕ). t ++ 10 ∷ []) (q ∙ ap (λ (t : List ℕ). t ++ rule.name) p ∙ append_assoc out (codes "step unsafe ") rule.name)
-    ∙ append_assoc out (codes "step unsafe " ++ rule.name) (10 ∷ [])
-    ∙ ap (λ (t : List ℕ). out ++ ((codes "step unsafe " ++ t) ++ 10 ∷ [])) (sym named) in
+    r ∙ ap (λ (t : List ℕ). t ++ 10 ∷ []) (q ∙ ap (λ (t : List ℕ). t ++ named) p ∙ append_assoc out (codes "step unsafe ") named)
+    ∙ append_assoc out (codes "step unsafe " ++ named) (10 ∷ []) in
     lines ∙ ap (λ (t : List ℕ). t ++ step_line names number) done
     ∙ flat_map_more (step_line names) start (take i numbers) number
-    ∙ ap (λ (ks : List ℕ). start ++ script_text names ks) (sym (take_next numbers i number within stands))
+    ∙ ap (λ (ks : List ℕ). start ++ script_text names ks) (sym next)

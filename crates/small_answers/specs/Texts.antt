@@ -1,7 +1,7 @@
 -- The texts of terms and of scripts, by the names of constants and rules.
 use Rattle.std.specs.Prelude.{ℕ, List, [], ◌∷◌, ◌++◌, codes, Bool, true, false, slice_index_or}
 use Rattle.std.specs.List.{flat_map}
-use Rattle.lf_definitions.specs.Syntax.{LfHead, bound, constant, metavariable, LfTerm, lam, at, Spine, no_args, arg}
+use Rattle.lf_definitions.specs.Syntax.{bound, constant, metavariable, LfTerm, lam, at, Spine, no_args, arg}
 
 -- these bytes and a line feed
 abbrev pub line : List ℕ → List ℕ

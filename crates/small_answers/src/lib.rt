@@ -5,11 +5,18 @@
 #![tactic(auto)]
 
 pub mod choices;
+pub mod lengths;
 mod numbers;
+pub mod proofs_of;
 mod script;
+mod table_lengths;
 mod term_text;
+mod terms;
 
 pub use choices::{Choice, choice_of};
+pub use lengths::Length;
 pub use numbers::append_numbers;
+pub use proofs_of::Proofs;
 pub use script::append_script;
 pub use term_text::append_term;
+pub use terms::terms_of;

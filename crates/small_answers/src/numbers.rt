@@ -5,8 +5,8 @@ ghost use Rattle.small_search.specs.Closings.{closing_of, IsTable};
 ghost use Rattle.small_answers.specs.Additions.{AddsNumbers};
 
 use crate::choices::choice_of;
-use small_files::SmallFile;
 use lf_terms::{Ids, NoMemory};
+use small_files::SmallFile;
 use small_search::Table;
 
 /// Adds the numbers of the rules that close a closed family, in the order in which they close a list

@@ -8,8 +8,8 @@ ghost use Rattle.small_answers.specs.Chosen.{GivesTerm};
 ghost use Rattle.small_answers.specs.Additions.{AddsTerm};
 
 use crate::choices::choice_of;
-use small_files::SmallFile;
 use lf_terms::{Bytes, NoMemory};
+use small_files::SmallFile;
 use small_search::Table;
 
 /// Whether the term of a closed family has arguments.

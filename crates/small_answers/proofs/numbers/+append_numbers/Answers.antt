@@ -1,4 +1,4 @@
-use Rattle.std.proofs.Common.{ℕ, ◌∷◌, [], List, get_or, subst, sym, ◌∙◌}
+use Rattle.std.proofs.Common.{ℕ, List, subst, sym, ◌∙◌}
 use Rattle.std.proofs.lemmas.List.{take_more, take_all}
 use Rattle.small_answers.specs.Additions.{AddsNumbers}
 use Rattle.small_answers.proofs.TermTexts.{AddsNumbers-none, AddsNumbers-push, AddsNumbers-chosen}

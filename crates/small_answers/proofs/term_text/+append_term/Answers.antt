@@ -1,4 +1,4 @@
-use Rattle.std.proofs.Common.{ℕ, ◌++◌, ◌∷◌, [], List, get_or, subst, sym, ap, ◌∙◌}
+use Rattle.std.proofs.Common.{ℕ, ◌++◌, List, subst, sym, ap, ◌∙◌}
 use Rattle.std.proofs.lemmas.List.{take_more, take_all}
 use Rattle.small_answers.specs.Additions.{AddsArgs}
 use Rattle.small_answers.proofs.TermTexts.{AddsArgs-none, AddsArgs-push, AddsTerm-chosen}

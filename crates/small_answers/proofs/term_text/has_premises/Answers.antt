@@ -1,4 +1,4 @@
-use Rattle.std.proofs.Common.{ap, ◌∙◌, length, nat_lt}
+use Rattle.std.proofs.Common.{ap, ◌∙◌, nat_lt}
 use Rattle.small_answers.proofs.TermTexts.{has_args-chosen}
 use Rattle.small_answers.proofs.term_text.has_premises.Goals as goal
 

@@ -1,0 +1,76 @@
+//! The answer for one theorem.
+
+ghost use Rattle.std.specs.Prelude.{◌<◌, length, IfOk};
+ghost use Rattle.small_files.specs.SmallFiles.{IsNumbered};
+ghost use Rattle.small_search.specs.Closings.{IsClosedAt};
+ghost use Rattle.small_answers.specs.Lengths.{IsProofs};
+ghost use Rattle.aesop_session.specs.Verdicts.{IsVerdict, IsVerdictOf};
+
+use lf_terms::term::copy;
+use lf_terms::{Ids, NoMemory, Term};
+use small_answers::lengths::MOST;
+use small_answers::{Proofs, append_numbers, terms_of};
+use small_files::SmallFile;
+use std::alloc::Global;
+
+/// What is answered for a theorem of a small file.
+#[derive(Drop)]
+pub enum SmallVerdict {
+    /// A derivation: its term, and the numbers of its rules from 2 in the order of declaration.
+    Proved(Term, Ids),
+    /// There is no derivation.
+    Stuck,
+}
+
+/// Searches a derivation of the theorem of a number, from 0 in the order of declaration. Its time is
+/// linear in the size of the file and in the number of steps. It fails only where memory runs out,
+/// or where the script would be 2^31 bytes or more.
+pub fn prove_small(alloc: Global, file: &SmallFile, theorem: u32) -> Result<SmallVerdict, NoMemory>
+    requires numbered { IsNumbered file.now }
+    requires known { theorem < length file.now.theorems }
+    ensures { IfOk result (IsVerdict file.now theorem) }
+{
+    let proofs = Proofs::of_file(alloc, file)?;
+    let family = file.theorems.as_slice()[theorem as usize].family;
+    verdict_of(alloc, file, &proofs, family)
+}
+
+/// The answer for a family.
+fn verdict_of(
+    alloc: Global,
+    file: &SmallFile,
+    proofs: &Proofs,
+    family: u32,
+) -> Result<SmallVerdict, NoMemory>
+    requires { IsProofs file.now proofs.now }
+    ensures { IfOk result (IsVerdictOf file.now family) }
+{
+    match proofs.table.closing(family) {
+        Some(closing) => {
+            if proofs.lengths[closing.rank as usize].script >= MOST {
+                return Err(NoMemory);
+            }
+            proved_by(alloc, file, proofs, family, closing.rank)
+        }
+        None => Ok(SmallVerdict::Stuck),
+    }
+}
+
+/// The derivation that the table gives for a family that was closed at a rank.
+fn proved_by(
+    alloc: Global,
+    file: &SmallFile,
+    proofs: &Proofs,
+    family: u32,
+    rank: u32,
+) -> Result<SmallVerdict, NoMemory>
+    requires proofs { IsProofs file.now proofs.now }
+    requires closed { IsClosedAt proofs.now.table.by_family rank family }
+    ensures { IfOk result (IsVerdictOf file.now family) }
+{
+    let mut numbers = Ids::new(alloc);
+    append_numbers(&mut numbers, file, &proofs.table, family)?;
+    let terms = terms_of(alloc, file, &proofs.table)?;
+    let term = copy(&terms[rank as usize])?;
+    Ok(SmallVerdict::Proved(term, numbers))
+}
