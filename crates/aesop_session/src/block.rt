@@ -1,6 +1,6 @@
 //! The text of a theorem's block.
 
-ghost use Rattle.std.specs.Prelude.{◌≡◌, ◌++◌, IfOk, OnOk, IsSome};
+ghost use Rattle.std.specs.Prelude.{◌≡◌, ◌++◌, ◌+◌, ◌≤◌, ◌↔◌, length, IfOk, OnOk, IsSome, IsTrue};
 ghost use Rattle.small_search.specs.Closings.{closing_of, IsTable};
 ghost use Rattle.small_answers.specs.Lengths.{IsProofs};
 ghost use Rattle.aesop_session.specs.Documents.{stuck_text, AddsBlock, AddsProvedBlock};
@@ -46,7 +46,9 @@ pub(crate) fn append_block(
 }
 
 /// Whether a proved block would be too long, by its name and the lengths of its texts.
-fn is_too_long(name: &[u8], term: u32, script: u32) -> bool {
+fn is_too_long(name: &[u8], term: u32, script: u32) -> bool
+    ensures { IsTrue result ↔ (2147483648 ≤ length name.now + term + script + 22) }
+{
     let texts = u64::from(term) + u64::from(script);
     name.len() as u64 >= MOST || texts + name.len() as u64 + WORDS >= MOST
 }

@@ -81,6 +81,14 @@ fn lines_of(alloc: Global, text: &str) -> Result<Bytes, NoMemory> {
     Ok(lines)
 }
 
+/// Adds so many binders of the family of a number.
+fn append_binders(alloc: Global, file: &mut Bytes, family: u32, times: u32) -> Result<(), Fail> {
+    for _ in 0..times {
+        file.append(format!(in alloc; "p{family} -> ")?.as_bytes())?;
+    }
+    Ok(())
+}
+
 /// A file of so many rules: each family but the first is left to the one before it, as many times as
 /// is said, and the theorem is of the last.
 fn chain_of(alloc: Global, count: u32, times: u32) -> Result<Bytes, Fail> {
@@ -88,9 +96,7 @@ fn chain_of(alloc: Global, count: u32, times: u32) -> Result<Bytes, Fail> {
     file.append(b"family p0 : type. const c0 : p0. rule r0 : unsafe 50 apply c0. ")?;
     for i in 1..count {
         file.append(format!(in alloc; "family p{i} : type. const c{i} : ")?.as_bytes())?;
-        for _ in 0..times {
-            file.append(format!(in alloc; "p{} -> ", i - 1)?.as_bytes())?;
-        }
+        append_binders(alloc, &mut file, i - 1, times)?;
         file.append(format!(in alloc; "p{i}. rule r{i} : unsafe 50 apply c{i}. ")?.as_bytes())?;
     }
     file.append(format!(in alloc; "theorem t : p{}.", count.saturating_sub(1))?.as_bytes())?;

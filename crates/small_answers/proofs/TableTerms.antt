@@ -1,9 +1,9 @@
 -- A table gives numbers and terms for each family that it closes, in one way, and they are those of a derivation.
-use Rattle.std.proofs.Common.{◌≡◌, ℕ, zero, suc, ◌<◌, List, [], ◌∷◌, ◌++◌, length, Option, Some, All, refl, sym, subst, ap, ◌∙◌, arith, append_assoc, append-nil}
+use Rattle.std.proofs.Common.{◌≡◌, ℕ, zero, suc, ◌<◌, List, [], ◌∷◌, ◌++◌, Option, Some, All, refl, sym, subst, ap, ◌∙◌, arith, append_assoc, append-nil}
 use Rattle.std.specs.List.{AllByRecursion}
 use Rattle.std.proofs.lemmas.List.Elements.{recursion_from_All, All-nil, All-cons, All-append}
 use Rattle.std.proofs.lemmas.Option.{slice_get_within}
-use Rattle.lf_definitions.specs.Syntax.{LfTerm, at, constant, Spine, no_args, arg, args_count, joined}
+use Rattle.lf_definitions.specs.Syntax.{LfTerm, at, constant, Spine, no_args, arg, joined}
 use Rattle.small_files.specs.declared.small.SmallFile.{SmallFile}
 use Rattle.small_files.specs.declared.small.SmallConst.{SmallConst}
 use Rattle.small_files.specs.declared.small.SmallRule.{SmallRule}
@@ -32,11 +32,6 @@ module _ (file : SmallFile) (closings : List (Option Closing)) where
         numbers = sym p.number_is ∙ ap (λ (r : SmallRule). r.constant) one.0 ∙ q.number_is;
         constants = one.1;
       }
-
-  pub GivesTerms-count : (goals numbers : List ℕ) (terms : Spine) → GivesTerms file closings goals numbers terms → args_count terms ≡ length goals
-  GivesTerms-count goals numbers terms gives_none = refl
-  GivesTerms-count all numbers terms (gives_one goal rule number declared goals below rest more args others chosen under after parts) =
-      ap suc (GivesTerms-count goals rest others after)
 
   pub GivesTerms-join : (xs ys ms ns : List ℕ) (a b : Spine) → GivesTerms file closings xs ms a → GivesTerms file closings ys ns b → GivesTerms file closings (xs ++ ys) (ms ++ ns) (joined a b)
   GivesTerms-join xs ys ms ns a b gives_none more = more

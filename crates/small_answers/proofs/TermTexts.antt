@@ -1,5 +1,5 @@
 -- The texts of terms that a table gives.
-use Rattle.std.proofs.Common.{◌≡◌, ℕ, suc, ◌+◌, ◌<◌, List, [], ◌∷◌, ◌++◌, length, take, get_or, Option, Some, None, IsSome, Bool, true, false, nat_lt, slice_get, refl, sym, subst, ap, ◌∙◌, arith, append_assoc, append-nil}
+use Rattle.std.proofs.Common.{◌≡◌, ℕ, suc, ◌+◌, ◌<◌, List, [], ◌∷◌, ◌++◌, length, take, get_or, Option, Some, None, Bool, true, false, nat_lt, slice_get, refl, sym, ap, ◌∙◌, arith, append_assoc, append-nil}
 use Rattle.std.specs.Prelude.{codes, if◌then◌else◌}
 use Rattle.std.proofs.lemmas.List.{get_or-map, flat_map_more}
 use Rattle.std.proofs.lemmas.Bool.{lt-ltb}
@@ -10,8 +10,6 @@ use Rattle.small_files.specs.declared.small.SmallConst.{SmallConst}
 use Rattle.small_files.specs.declared.small.SmallRule.{SmallRule}
 use Rattle.small_files.specs.Names.{constant_names, rule_names}
 use Rattle.small_search.specs.declared.closing.Closing.{Closing}
-use Rattle.small_search.specs.Closings.{closing_of, IsClosedBelow}
-use Rattle.small_search.proofs.Options.{IsSome-from_some}
 use Rattle.small_answers.specs.Texts.{name_at, has_args, in_parentheses, term_text, args_text, step_line, script_text}
 use Rattle.small_answers.specs.Chosen.{IsChosen, GivesTerms, gives_none, gives_one, GivesTerm}
 use Rattle.small_answers.specs.Additions.{AddsNumbers, AddsArgs, AddsTerm}
@@ -21,19 +19,6 @@ use Rattle.small_answers.proofs.TableTerms.{IsChosen-one, GivesTerms-join, Gives
 abbrev pub rank_of : Option Closing → ℕ
 rank_of None = 0
 rank_of (Some closing) = closing.rank
-
--- A binder is closed, at a lower rank.
-pub record IsLower (closings : List (Option Closing)) (family binder : ℕ) : Type 0 where
-  pub closed : IsSome (closing_of closings binder)
-  pub lower : rank_of (closing_of closings binder) < rank_of (closing_of closings family)
-
-pub IsLower-binder : (file : SmallFile) (closings : List (Option Closing)) (family rule number : ℕ) (declared : SmallConst) (i : ℕ) (binder : ℕ) → IsChosen file closings family rule number declared → i < length declared.binders → binder ≡ get_or declared.binders i binder → IsLower closings family binder
-IsLower-binder file closings family rule number declared i binder chosen within is =
-    let below = subst (IsClosedBelow closings chosen.closing.rank) (sym is) (chosen.earlier i binder within) in
-    record {
-      closed = IsSome-from_some (closing_of closings binder) below.closing below.closes;
-      lower = omega (arith, below.below, ap rank_of below.closes, ap rank_of chosen.closes);
-    }
 
 -- ---- numbers
 

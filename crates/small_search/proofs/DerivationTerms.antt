@@ -13,10 +13,6 @@ pub joined-assoc : (a b c : Spine) → joined (joined a b) c ≡ joined a (joine
 joined-assoc no_args b c = refl
 joined-assoc (arg t ts) b c = ap (arg t) (joined-assoc ts b c)
 
-pub joined-no_args : (a : Spine) → joined a no_args ≡ a
-joined-no_args no_args = refl
-joined-no_args (arg t ts) = ap (arg t) (joined-no_args ts)
-
 pub args_count-joined : (a b : Spine) → args_count (joined a b) ≡ args_count a + args_count b
 args_count-joined no_args b = omega arith
 args_count-joined (arg t ts) b = omega (arith, args_count-joined ts b)
