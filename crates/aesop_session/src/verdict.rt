@@ -8,7 +8,6 @@ ghost use Rattle.aesop_session.specs.Verdicts.{IsVerdict, IsVerdictOf};
 
 use lf_terms::term::copy;
 use lf_terms::{Ids, NoMemory, Term};
-use small_answers::lengths::MOST;
 use small_answers::{Proofs, append_numbers, terms_of};
 use small_files::SmallFile;
 use std::alloc::Global;
@@ -24,7 +23,7 @@ pub enum SmallVerdict {
 
 /// Searches a derivation of the theorem of a number, from 0 in the order of declaration. Its time is
 /// linear in the size of the file and in the number of steps. It fails only where memory runs out,
-/// or where the script would be 2^31 bytes or more.
+/// or where there would be 2^31 steps or more.
 pub fn prove_small(alloc: Global, file: &SmallFile, theorem: u32) -> Result<SmallVerdict, NoMemory>
     requires numbered { IsNumbered file.now }
     requires known { theorem < length file.now.theorems }
@@ -47,9 +46,6 @@ fn verdict_of(
 {
     match proofs.table.closing(family) {
         Some(closing) => {
-            if proofs.lengths[closing.rank as usize].script >= MOST {
-                return Err(NoMemory);
-            }
             proved_by(alloc, file, proofs, family, closing.rank)
         }
         None => Ok(SmallVerdict::Stuck),

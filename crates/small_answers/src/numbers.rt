@@ -5,13 +5,14 @@ ghost use Rattle.small_search.specs.Closings.{closing_of, IsTable};
 ghost use Rattle.small_answers.specs.Additions.{AddsNumbers};
 
 use crate::choices::choice_of;
+use crate::lengths::MOST;
 use lf_terms::{Ids, NoMemory};
 use small_files::SmallFile;
 use small_search::Table;
 
 /// Adds the numbers of the rules that close a closed family, in the order in which they close a list
 /// of goals: the rule of the family, and then those of its binders from left to right. Its time is
-/// linear in how many there are.
+/// linear in how many there are. A list of 2^31 numbers is want of memory.
 pub fn append_numbers(
     numbers: &mut Ids,
     file: &SmallFile,
@@ -22,6 +23,9 @@ pub fn append_numbers(
     requires closed { IsSome (closing_of table.now.by_family family) }
     ensures { OnOk result (AddsNumbers file.now table.now.by_family (family ∷ []) numbers.old numbers.new) }
 {
+    if numbers.len() >= MOST as usize {
+        return Err(NoMemory);
+    }
     let choice = choice_of(file, table, family);
     numbers.push(choice.rule)?;
     for binder in choice.constant.binders.as_slice() {
