@@ -16,14 +16,22 @@ abbrev pub FailsEntry : LfSignature → LfEntry → List ℕ → Type 0
 FailsEntry sig (family_entry name kind) path = FailsKind (kinds_in sig) (typing_in sig [] []) kind path
 FailsEntry sig (constant_entry name type) path = FailsType (kinds_in sig) (typing_in sig [] []) type path
 
--- The name is new and there is room for one more.
-abbrev pub HasRoom : LfSignature → LfEntry → Type 0
-HasRoom sig entry = IsNewName sig (name_of_entry entry) × (length sig < 65535)
+-- The name is new, and there is room for one more entry.
+abbrev pub HasRoom : LfSignature → List ℕ → Type 0
+HasRoom sig name = IsNewName sig name × (length sig < 65535)
 
 -- An entry is added under its number where it is well formed, its name is new and there is room. Otherwise it isn't, and the signature is as it was.
 abbrev pub Adds : LfSignature → LfSignature → LfEntry → Result ℕ SigFault → Type 0
-Adds before after entry (Ok number) = HasRoom before entry × FormedEntry before entry × (number ≡ number_of before entry) × (after ≡ before ++ entry ∷ [])
+Adds before after entry (Ok number) = HasRoom before (name_of_entry entry) × FormedEntry before entry × (number ≡ number_of before entry) × (after ≡ before ++ entry ∷ [])
 Adds before after entry (Err (Taken place)) = (place_of (names_of before) (name_of_entry entry) ≡ Some place) × (after ≡ before)
 Adds before after entry (Err Full) = IsNewName before (name_of_entry entry) × (length before ≡ 65535) × (after ≡ before)
-Adds before after entry (Err (Ill path)) = HasRoom before entry × FailsEntry before entry path × (after ≡ before)
+Adds before after entry (Err (Ill path)) = HasRoom before (name_of_entry entry) × FailsEntry before entry path × (after ≡ before)
 Adds before after entry (Err (NoMemory name)) = (name ≡ name_of_entry entry) × (after ≡ before)
+
+-- the test of the name and of the room alone
+abbrev pub HasRoomOr : LfSignature → List ℕ → Result (Unit {0}) SigFault → Type 0
+HasRoomOr sig name (Ok done) = HasRoom sig name
+HasRoomOr sig name (Err (Taken place)) = place_of (names_of sig) name ≡ Some place
+HasRoomOr sig name (Err Full) = IsNewName sig name × (length sig ≡ 65535)
+HasRoomOr sig name (Err (Ill path)) = ⊥
+HasRoomOr sig name (Err (NoMemory back)) = ⊥

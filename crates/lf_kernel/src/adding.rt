@@ -2,7 +2,7 @@
 
 ghost use Rattle.std.specs.Prelude.{[], IfOk};
 ghost use Rattle.lf_definitions.specs.Signatures.{family_entry, constant_entry, kinds_in, typing_in};
-ghost use Rattle.lf_kernel.specs.Adding.{Adds};
+ghost use Rattle.lf_kernel.specs.Adding.{Adds, HasRoomOr};
 ghost use Rattle.lf_kernel.specs.Checks.{ChecksType};
 ghost use Rattle.lf_terms.specs.Types.{type_of};
 
@@ -26,12 +26,8 @@ pub fn add_family(
 ) -> Result<u32, SigFault>
     ensures { Adds sig.old sig.new (family_entry name kind.binders) result }
 {
-    if let Some(place) = sig.order_of(&name) {
-        return Err(SigFault::Taken(place));
-    }
-    sig.has_few_entries();
-    if sig.size() >= LIMIT {
-        return Err(SigFault::Full);
+    if let Err(fault) = room_for(&*sig, &name) {
+        return Err(fault);
     }
     match check_kind(alloc, &*sig, &kind) {
         Err(NoMemory) => Err(SigFault::NoMemory(name)),
@@ -47,12 +43,8 @@ pub fn add_family(
 pub fn add_const(alloc: Global, sig: &mut Signature, name: Name, ty: Ty) -> Result<u32, SigFault>
     ensures { Adds sig.old sig.new (constant_entry name (type_of ty)) result }
 {
-    if let Some(place) = sig.order_of(&name) {
-        return Err(SigFault::Taken(place));
-    }
-    sig.has_few_entries();
-    if sig.size() >= LIMIT {
-        return Err(SigFault::Full);
+    if let Err(fault) = room_for(&*sig, &name) {
+        return Err(fault);
     }
     match check_closed(alloc, &*sig, &ty) {
         Err(NoMemory) => Err(SigFault::NoMemory(name)),
@@ -61,6 +53,23 @@ pub fn add_const(alloc: Global, sig: &mut Signature, name: Name, ty: Ty) -> Resu
             Ok(number) => Ok(number),
             Err(name) => Err(SigFault::NoMemory(name)),
         },
+    }
+}
+
+// Whether an entry of this name may be added, if it is well formed, or why not.
+fn room_for(sig: &Signature, name: &Name) -> Result<(), SigFault>
+    ensures { HasRoomOr sig.now name.now result }
+{
+    sig.has_few_entries();
+    match sig.order_of(name) {
+        Some(place) => Err(SigFault::Taken(place)),
+        None => {
+            if sig.size() >= LIMIT {
+                Err(SigFault::Full)
+            } else {
+                Ok(())
+            }
+        }
     }
 }
 

@@ -6,7 +6,7 @@ use crate::adding::{add_const, add_family};
 use crate::answer::Check;
 use crate::sig_fault::SigFault;
 use crate::typing::{check, check_type};
-use lf_terms::{Ctx, GoalList, Head, Kind, Name, NoMemory, Signature, Term, Terms, Ty, Tys};
+use lf_terms::{Ctx, GoalList, Head, Kind, Name, NoMemory, Path, Signature, Term, Terms, Ty, Tys};
 use std::alloc::Global;
 use std::test::Fail;
 
@@ -75,12 +75,7 @@ fn small(alloc: Global) -> Result<Signature, NoMemory> {
 }
 
 // The check of a closed term at a type that is well formed.
-fn closed(
-    alloc: Global,
-    sig: &Signature,
-    term: &Term,
-    ty: &Ty,
-) -> Result<Option<Check>, NoMemory> {
+fn closed(alloc: Global, sig: &Signature, term: &Term, ty: &Ty) -> Result<Option<Check>, NoMemory> {
     let metas = GoalList::new(alloc);
     let ctx = Ctx::new();
     match check_type(alloc, sig, &metas, &ctx, ty)? {
@@ -96,9 +91,20 @@ fn answers(found: &Option<Check>, path: Option<&[u32]>) -> bool {
         Some(Check::Well) => path.is_none(),
         Some(Check::Ill(ill)) => match path {
             None => false,
-            Some(path) => ill.as_slice() == path,
+            Some(path) => is_path(ill, path),
         },
     }
+}
+
+fn is_ill(fault: &Option<SigFault>, path: &[u32]) -> bool {
+    match fault {
+        Some(SigFault::Ill(found)) => is_path(found, path),
+        _ => false,
+    }
+}
+
+fn is_path(found: &Path, path: &[u32]) -> bool {
+    found.as_slice() == path
 }
 
 #[test]
@@ -130,10 +136,8 @@ fn a_name_is_taken_once(rt: HostRuntime) -> Result<(), Fail> {
 fn an_ill_formed_type_is_refused(rt: HostRuntime) -> Result<(), Fail> {
     let alloc = rt.alloc();
     let mut sig = small(alloc)?;
-    match typed(alloc, &mut sig, b"g", arrow(alloc, 2, 0)?)? {
-        Some(SigFault::Ill(path)) => assert_eq!(rt; path.as_slice(), [0].as_slice()),
-        _ => assert!(rt; false),
-    }
+    let fault = typed(alloc, &mut sig, b"g", arrow(alloc, 2, 0)?)?;
+    assert!(rt; is_ill(&fault, &[0]));
     Ok(())
 }
 

@@ -1,0 +1,12 @@
+use Rattle.std.proofs.Common.{arith, sym, ◌∙◌}
+use Rattle.lf_definitions.specs.Signatures.{names_of}
+use Rattle.lf_terms.proofs.NamePlaces.{place_absent}
+use Rattle.lf_kernel.proofs.adding.room_for.Goals as goal
+
+pub returns-then-size-ge-LIMIT : goal.returns-then-size-ge-LIMIT
+returns-then-size-ge-LIMIT c =
+    (place_absent c.args.name.now (names_of c.args.sig.now) (sym c.order_of.ensures ∙ c.in-None.is), omega (arith, c.size.ensures, c.has_few_entries.ensures, c.if-size-ge-LIMIT.true))
+
+pub returns-else-size-ge-LIMIT : goal.returns-else-size-ge-LIMIT
+returns-else-size-ge-LIMIT c =
+    (place_absent c.args.name.now (names_of c.args.sig.now) (sym c.order_of.ensures ∙ c.in-None.is), omega (arith, c.size.ensures, c.if-size-ge-LIMIT.false))
