@@ -45,9 +45,7 @@ fn verdict_of(
     ensures { IfOk result (IsVerdictOf file.now family) }
 {
     match proofs.table.closing(family) {
-        Some(closing) => {
-            proved_by(alloc, file, proofs, family, closing.rank)
-        }
+        Some(closing) => { proved_by(alloc, file, proofs, family, closing.rank) }
         None => Ok(SmallVerdict::Stuck),
     }
 }
