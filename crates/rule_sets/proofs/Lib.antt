@@ -8,3 +8,4 @@ pub mod Turns
 pub mod Sets
 pub mod Over
 pub mod Orders
+pub mod Atoms
