@@ -9,8 +9,8 @@ ghost use Rattle.lf_terms.specs.Terms.{head_of};
 use crate::scope::{Scope, type_of_variable};
 use lf_terms::{GoalList, Head, NoMemory, Signature, Terms, Tys};
 
-// The type of a head as it stands where the head is declared, and how far the variables outside have risen
-// on the way to where it is used.
+/// The type of a head as it stands where the head is declared, and how far the variables outside have risen
+/// on the way to where it is used.
 #[derive(Clone, Copy)]
 pub struct HeadType<'a> {
     pub binders: &'a Tys,
@@ -19,7 +19,8 @@ pub struct HeadType<'a> {
     pub raise: u32,
 }
 
-// The type of a head, if it may occur.
+/// The type of a head, if it may occur. It takes no memory; a number of a variable that is the greatest of its
+/// type is want of memory.
 pub fn type_of_head<'a>(
     sig: &'a Signature,
     metas: &'a GoalList,

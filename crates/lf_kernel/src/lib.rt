@@ -6,9 +6,9 @@
 
 pub mod adding;
 mod answer;
-mod head_type;
+pub mod head_type;
 mod path;
-mod scope;
+pub mod scope;
 mod sig_fault;
 mod stripping;
 pub mod typing;

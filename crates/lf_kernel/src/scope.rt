@@ -9,14 +9,15 @@ ghost use Rattle.lf_terms.specs.Types.{type_of};
 
 use lf_terms::Ty;
 
-// The variables of binders, those of one prefix together, each type in the scope of the variables before it.
+/// The variables of binders, those of one prefix together, each type in the scope of the variables before it.
 #[derive(Clone, Copy)]
 pub enum Scope<'a> {
     Closed,
     Under(&'a [Ty], &'a Scope<'a>),
 }
 
-// The type of a variable, as it stands at the variable's own binder. It goes from prefix to prefix.
+/// The type of a variable, as it stands at the variable's own binder, if there is one of this number. It goes
+/// from prefix to prefix, and takes no memory.
 pub fn type_of_variable<'a>(scope: &'a Scope<'a>, number: usize) -> Option<&'a Ty>
     ensures { option_map (λ ty. rename_type (next_by (number + 1)) (type_of ty.now)) result ≡ typing_under no_heads scope.now (bound number) }
 {
