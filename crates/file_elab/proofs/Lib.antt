@@ -1,0 +1,14 @@
+pub mod SignatureNames
+pub mod TokenPlaces
+pub mod EtaTyping
+pub mod ReadTyped
+pub mod Applications
+pub mod BinderNames
+pub mod Copies
+pub mod Expanding
+pub mod Reading
+pub mod Applying
+pub mod Families
+pub mod Openings
+pub mod Lasts
+pub mod KindOpenings

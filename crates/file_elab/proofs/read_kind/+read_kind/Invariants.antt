@@ -1,0 +1,15 @@
+use Rattle.std.proofs.Common.{◌+◌, ◌*◌, drop}
+use Rattle.file_trees.specs.Trees.{classifier_size, bindings_size}
+use Rattle.file_trees.specs.TypeViews.{bindings_of}
+use Rattle.lf_terms.specs.Types.{types_of}
+use Rattle.file_elab.specs.Fronts.{OpensKind}
+use Rattle.file_elab.specs.Knowing.{typing_of}
+use Rattle.file_elab.specs.Sources.{text_in}
+use Rattle.file_elab.proofs.Lasts.{last_measure}
+use Rattle.file_elab.proofs.read_kind.+read_kind.Given as goal
+
+abbrev pub decreases-read_kind_rest : goal.decreases-read_kind_rest
+decreases-read_kind_rest l = 4 * classifier_size l.tree.now + 2
+
+abbrev pub decreases-read_kind_last : goal.decreases-read_kind_last
+decreases-read_kind_last l = last_measure l.last.now
