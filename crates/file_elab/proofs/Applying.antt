@@ -1,18 +1,17 @@
 -- An application and its arguments as the code has them.
-use Rattle.std.proofs.Common.{◌≡◌, ◌≢◌, ℕ, zero, suc, ◌+◌, ◌<◌, ◌≤◌, Option, Some, None, option_map, List, [], ◌∷◌, ◌++◌, length, get_or, take, drop, refl, sym, ap, ap₂, ◌∙◌, subst, subst₂, take_all, arith}
+use Rattle.std.proofs.Common.{◌≡◌, ℕ, zero, suc, ◌+◌, ◌<◌, Option, Some, List, [], ◌∷◌, ◌++◌, length, get_or, take, drop, refl, sym, ap, ap₂, ◌∙◌, subst, subst₂, take_all, arith}
 use Rattle.std.specs.Prelude.{slice_get}
 use Rattle.std.proofs.lemmas.List.{take-append-drop}
-use Rattle.std.proofs.lemmas.Option.{slice_get_within}
-use Rattle.lf_definitions.specs.Syntax.{LfHead, LfTerm, Spine, no_args, arg, args_count, joined, SimpleType, base, arrows, shape_of, shapes_of_types, LfType, pi, family, pis, Context}
-use Rattle.lf_definitions.specs.Renaming.{next_by, Renaming, lifted, lifted_by, rename_spine, rename_type, rename_context}
-use Rattle.lf_definitions.specs.Shaping.{Scope, under_all, ShapedType, ShapedSpine, ShapedList}
+use Rattle.lf_definitions.specs.Syntax.{LfHead, Spine, no_args, arg, joined, base, shape_of, shapes_of_types, LfType, family, pis, Context}
+use Rattle.lf_definitions.specs.Renaming.{next_by, Renaming, lifted, lifted_by, rename_type, rename_context}
+use Rattle.lf_definitions.specs.Shaping.{under_all, ShapedType, ShapedList}
 use Rattle.lf_definitions.specs.Substitution.{stays, push_all, SubstitutedType}
-use Rattle.lf_definitions.specs.Typing.{Typing, TypedSpine, Kinds, shapes_of, shapes_of_kinds}
+use Rattle.lf_definitions.specs.Typing.{Typing, TypedSpine, shapes_of}
 use Rattle.lf_definitions.specs.Signatures.{LfSignature, kinds_in}
 use Rattle.lf_definitions.specs.ShapedGoals.{ShapedContext, ShapedTyping, kind_shapes_in}
 use Rattle.lf_definitions.proofs.Typing.{ShapedSpine-TypedSpine}
-use Rattle.lf_definitions.proofs.TypedSpines.{SubstitutedType-renamed_outside, length-rename_context}
-use Rattle.lf_definitions.proofs.ShapedGoals.{ShapedTyping-head, ShapedContext-pis, ShapedType-under_pis}
+use Rattle.lf_definitions.proofs.TypedSpines.{SubstitutedType-renamed_outside}
+use Rattle.lf_definitions.proofs.ShapedGoals.{ShapedTyping-head, ShapedType-under_pis}
 use Rattle.lf_definitions.proofs.Unrenaming.{ShapedType-unrenamed}
 use Rattle.lf_terms.specs.declared.term.Term.{Term}
 use Rattle.lf_terms.specs.Terms.{term_of, spine_of}

@@ -1,6 +1,6 @@
 -- Lists that are copied entry by entry, and spines that are joined.
-use Rattle.std.proofs.Common.{◌≡◌, ℕ, zero, suc, ◌+◌, ◌<◌, ◌≤◌, List, [], ◌∷◌, ◌++◌, length, get_or, take, drop, refl, sym, ap, ap₂, ◌∙◌, subst, arith}
-use Rattle.lf_definitions.specs.Syntax.{LfType, Spine, no_args, arg, joined}
+use Rattle.std.proofs.Common.{◌≡◌, ℕ, zero, suc, ◌+◌, ◌<◌, ◌≤◌, List, [], ◌∷◌, ◌++◌, length, get_or, take, drop, refl, sym, ap, ap₂, ◌∙◌, arith}
+use Rattle.lf_definitions.specs.Syntax.{Spine, no_args, arg, joined}
 use Rattle.lf_terms.specs.declared.term.Term.{Term}
 use Rattle.lf_terms.specs.Terms.{term_of, spine_of}
 use Rattle.lf_terms.specs.declared.ty.Ty.{Ty}

@@ -1,14 +1,14 @@
 -- Where the first arguments of a head have their types, its eta-long form with them has the type of what it still takes.
-use Rattle.std.proofs.Common.{◌≡◌, ℕ, zero, suc, ◌+◌, ◌<◌, ◌≤◌, Option, Some, None, option_map, List, [], ◌∷◌, ◌++◌, length, refl, sym, ap, ◌∙◌, subst, subst₂, arith}
+use Rattle.std.proofs.Common.{◌≡◌, ℕ, zero, suc, ◌+◌, ◌<◌, ◌≤◌, Option, Some, option_map, [], ◌∷◌, ◌++◌, length, refl, sym, ap, ◌∙◌, subst, subst₂, arith}
 use mathlib.Core.Path.{fun_ext}
-use Rattle.lf_definitions.specs.Syntax.{LfHead, bound, constant, metavariable, LfTerm, lam, at, Spine, no_args, arg, joined, lams, arity, args_count, SimpleType, base, arrow, arrows, arguments, shape_size, shape_of, shapes_of_types, LfType, pi, family, pis, Context}
-use Rattle.lf_definitions.specs.Renaming.{next, next_by, Renaming, lifted, lifted_by, rename_spine, rename_type, rename_context, raise_type}
+use Rattle.lf_definitions.specs.Syntax.{LfHead, bound, constant, metavariable, LfTerm, at, Spine, no_args, joined, lams, arity, args_count, SimpleType, base, arrow, arrows, arguments, shape_size, shape_of, shapes_of_types, LfType, pi, family, pis, Context}
+use Rattle.lf_definitions.specs.Renaming.{next, next_by, Renaming, lifted, lifted_by, rename_spine, rename_type, rename_context}
 use Rattle.lf_definitions.specs.Shaping.{Scope, under, under_all, Shaped, shaped_lam, shaped_at, ShapedSpine, shaped_none, shaped_arg, ShapedType, shaped_pi, shaped_family}
 use Rattle.lf_definitions.specs.Substitution.{Image, stays, becomes, rename_image, Replacement, up, up_by, push, push_all, Substituted, substituted_lam, substituted_stays, substituted_becomes, SubstitutedSpine, substituted_none, substituted_arg, Applied, SubstitutedType, substituted_pi, substituted_family}
 use Rattle.lf_definitions.specs.Expansion.{own_variables, eta}
 use Rattle.lf_definitions.specs.Typing.{Typing, with_variable, with_context, Typed, typed_lam, typed_at, TypedSpine, typed_none, typed_arg, Kinds, shapes_of, shapes_of_kinds}
-use Rattle.lf_definitions.specs.ShapedGoals.{ShapedContext, shaped_empty, shaped_entry, ShapedTyping}
-use Rattle.lf_definitions.specs.Laws.{variables, Closed, KeepsTypes}
+use Rattle.lf_definitions.specs.ShapedGoals.{ShapedContext, shaped_empty, shaped_entry}
+use Rattle.lf_definitions.specs.Laws.{variables, KeepsTypes}
 use Rattle.lf_definitions.proofs.Uniqueness.{stays-becomes, stays_inj}
 use Rattle.lf_definitions.proofs.Renaming.{extended-next, each_head, same_head, rename_type-same_head, rename_spine-same_head, KeepsShapes, Shaped-rename, SubstitutedType-rename_type, SubstitutedSpine-rename_spine, renames, up-renames, SubstitutedSpine-renames}
 use Rattle.lf_definitions.proofs.Totality.{Fits, fits_stays, fits_becomes, Goes, Goes-more, Goes-stays, Goes-up, Goes-push, ShapedSpine-SubstitutedSpine}

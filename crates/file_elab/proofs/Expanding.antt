@@ -1,6 +1,6 @@
 -- A head with its first arguments as the code makes it eta-long.
-use Rattle.std.proofs.Common.{◌≡◌, ℕ, zero, suc, ◌+◌, ◌<◌, List, [], ◌∷◌, length, Some, refl, sym, ap, ap₂, ◌∙◌, subst, arith}
-use Rattle.lf_definitions.specs.Syntax.{LfHead, LfTerm, at, Spine, no_args, joined, lams, arity, SimpleType, base, arrow, arrows, shape_of, shapes_of_types, LfType, family, pis, Context}
+use Rattle.std.proofs.Common.{◌≡◌, ℕ, suc, List, [], ◌∷◌, length, refl, sym, ap, ap₂, ◌∙◌, subst, arith}
+use Rattle.lf_definitions.specs.Syntax.{LfHead, at, Spine, no_args, joined, lams, arity, SimpleType, base, arrow, arrows, shape_of, shapes_of_types, family, pis, Context}
 use Rattle.lf_definitions.specs.Renaming.{next_by, rename_spine}
 use Rattle.lf_definitions.specs.Shaping.{Scope, under_all, ShapedSpine, shaped_none}
 use Rattle.lf_definitions.specs.Substitution.{SubstitutedSpine}

@@ -1,8 +1,8 @@
 -- A family with its arguments as the code has them.
-use Rattle.std.proofs.Common.{◌≡◌, ℕ, zero, suc, Some, List, [], ◌∷◌, length, take, refl, sym, ap, ap₂, ◌∙◌, subst}
+use Rattle.std.proofs.Common.{◌≡◌, ℕ, zero, suc, Some, List, [], ◌∷◌, take, refl, sym, ap, ap₂, ◌∙◌, subst}
 use mathlib.Core.Path.{fun_ext}
 use Rattle.lf_definitions.specs.Syntax.{Context, LfKind}
-use Rattle.lf_definitions.specs.Renaming.{lifted, next_by, rename_context}
+use Rattle.lf_definitions.specs.Renaming.{next_by, rename_context}
 use Rattle.lf_definitions.specs.Typing.{Typing, shapes_of}
 use Rattle.lf_definitions.specs.Signatures.{LfSignature, kinds_in}
 use Rattle.lf_definitions.specs.ShapedGoals.{ShapedTyping, ShapedContext, kind_shapes_in}

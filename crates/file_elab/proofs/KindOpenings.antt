@@ -1,6 +1,6 @@
 -- The binders of a kind that are read one by one.
-use Rattle.std.proofs.Common.{◌≡◌, ℕ, List, [], ◌∷◌, ◌++◌, length, refl, sym, ap, ◌∙◌, subst, append_assoc}
-use Rattle.lf_definitions.specs.Syntax.{LfType, LfKind, Context}
+use Rattle.std.proofs.Common.{◌≡◌, List, [], ◌∷◌, ◌++◌, refl, sym, ap, ◌∙◌, subst, append_assoc}
+use Rattle.lf_definitions.specs.Syntax.{LfType, Context}
 use Rattle.lf_definitions.specs.Typing.{Typing, with_variable, with_context}
 use Rattle.lf_definitions.specs.Signatures.{LfSignature, kinds_in}
 use Rattle.lf_definitions.proofs.Typing.{ShapedType-Formed}

@@ -1,5 +1,5 @@
 -- The binders of a type as the code has them, and its last part.
-use Rattle.std.proofs.Common.{◌≡◌, ◌≢◌, ℕ, zero, suc, ◌+◌, ◌*◌, ◌<◌, ◌≤◌, List, [], ◌∷◌, length, get_or, drop, refl, sym, ap, ◌∙◌, subst, arith, add-one}
+use Rattle.std.proofs.Common.{◌≡◌, ◌≢◌, ℕ, zero, suc, ◌+◌, ◌*◌, ◌<◌, ◌≤◌, List, [], ◌∷◌, length, get_or, drop, refl, sym, ap, ◌∙◌, arith}
 use Rattle.file_trees.specs.Trees.{Classifier, Binding, pi_of, arrow_of, bind, classifier_size, bindings_size}
 use Rattle.file_trees.specs.declared.type_tree.Binder.{Binder}
 use Rattle.file_trees.specs.declared.type_tree.Last.{Last}

@@ -12,3 +12,4 @@ pub mod Families
 pub mod Openings
 pub mod Lasts
 pub mod KindOpenings
+pub mod Closed

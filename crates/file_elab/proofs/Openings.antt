@@ -1,6 +1,6 @@
 -- The binders of a type that are read one by one.
-use Rattle.std.proofs.Common.{◌≡◌, ℕ, zero, suc, ◌+◌, ◌<◌, ◌≤◌, Option, List, [], ◌∷◌, ◌++◌, length, drop, refl, sym, ap, ◌∙◌, subst, subst₂, append_assoc, length-append, arith}
-use Rattle.lf_definitions.specs.Syntax.{LfType, pi, pis, Context}
+use Rattle.std.proofs.Common.{◌≡◌, ℕ, zero, suc, ◌+◌, ◌<◌, ◌≤◌, List, [], ◌∷◌, ◌++◌, length, drop, refl, sym, ap, ◌∙◌, subst, subst₂, append_assoc, length-append, arith}
+use Rattle.lf_definitions.specs.Syntax.{LfType, pi, Context}
 use Rattle.lf_definitions.specs.Typing.{Typing, with_variable, with_context}
 use Rattle.lf_definitions.specs.Signatures.{LfSignature, kinds_in}
 use Rattle.lf_definitions.proofs.Typing.{ShapedType-Formed}

@@ -1,31 +1,25 @@
 -- What a term is read as, step by step.
-use Rattle.std.proofs.Common.{◌≡◌, ◌≢◌, ℕ, zero, suc, ◌+◌, ◌<◌, ◌≤◌, Bool, true, false, cond, Option, Some, None, option_map, List, [], ◌∷◌, ◌++◌, length, get_or, take, drop, refl, sym, ap, ap₂, ◌∙◌, subst, subst₂, take_all, arith}
+use Rattle.std.proofs.Common.{◌≡◌, ◌≢◌, ℕ, zero, suc, ◌+◌, ◌<◌, ◌≤◌, Bool, true, false, cond, Option, Some, None, option_map, List, [], ◌∷◌, ◌++◌, length, take, drop, refl, sym, ap, ap₂, ◌∙◌, subst, subst₂, arith}
 use Rattle.std.specs.Prelude.{slice_get}
 use Rattle.std.specs.Str.{bytes_eq}
-use Rattle.std.proofs.lemmas.List.{take-append-drop, length-take-le}
+use Rattle.std.proofs.lemmas.List.{take-append-drop}
 use Rattle.std.proofs.lemmas.List.Quantifiers.{position-Some}
-use Rattle.lf_definitions.specs.Syntax.{LfHead, bound, constant, LfTerm, lam, Spine, no_args, arg, args_count, joined, SimpleType, base, arrows, shape_of, shapes_of_types, LfType, pi, family, pis, Context, shape_size}
+use Rattle.lf_definitions.specs.Syntax.{LfHead, bound, constant, LfTerm, lam, Spine, no_args, arg, args_count, joined, SimpleType, shape_of, LfType, pi, family, pis, Context}
 use Rattle.lf_definitions.specs.Renaming.{raise_type, next_by, Renaming, lifted, lifted_by, rename_spine, rename_type, rename_context}
-use Rattle.lf_definitions.specs.Shaping.{Scope, under, under_all, ShapedType, shaped_pi, ShapedSpine, ShapedList}
+use Rattle.lf_definitions.specs.Shaping.{Scope, under, ShapedType, shaped_pi}
 use Rattle.lf_definitions.specs.Substitution.{Replacement, stays, push, push_all, SubstitutedType}
-use Rattle.lf_definitions.specs.Typing.{Typing, with_variable, with_context, Typed, TypedSpine, type_at, typed_globals, shapes_of, shapes_of_kinds}
+use Rattle.lf_definitions.specs.Typing.{Typing, with_variable, TypedSpine, type_at, typed_globals, shapes_of}
 use Rattle.lf_definitions.specs.Signatures.{LfSignature, family_entry, constant_entry, kinds_in, constant_names, constant_types}
-use Rattle.lf_definitions.specs.ShapedGoals.{ShapedContext, shaped_empty, shaped_entry, ShapedTyping, kind_shapes_in}
-use Rattle.lf_definitions.proofs.Renaming.{rename_type-same_head}
+use Rattle.lf_definitions.specs.ShapedGoals.{ShapedContext, shaped_empty, shaped_entry, kind_shapes_in}
 use Rattle.lf_definitions.proofs.Totality.{Goes-stays}
-use Rattle.lf_definitions.proofs.Typing.{ShapedSpine-TypedSpine}
 use Rattle.lf_definitions.proofs.Weakening.{rename_type-pis}
-use Rattle.lf_definitions.proofs.TypedSpines.{SubstitutedType-renamed_outside, length-rename_context}
-use Rattle.lf_definitions.proofs.ShapedGoals.{ShapedTyping-head, ShapedContext-pis, ShapedType-under_pis, shapes_of-under}
-use Rattle.lf_terms.specs.declared.term.Term.{Term}
-use Rattle.lf_terms.specs.Terms.{term_of, spine_of}
+use Rattle.lf_definitions.proofs.TypedSpines.{SubstitutedType-renamed_outside}
+use Rattle.lf_definitions.proofs.ShapedGoals.{shapes_of-under}
 use Rattle.lf_terms.specs.declared.ty.Ty.{Ty}
 use Rattle.lf_terms.specs.Types.{type_of, types_of}
 use Rattle.lf_terms.specs.Places.{place_of}
-use Rattle.lf_terms.proofs.TypeLists.{length-types_of}
 use Rattle.lf_kernel.specs.declared.head_type.HeadType.{HeadType}
 use Rattle.lf_kernel.specs.declared.scope.Scope as places
-use Rattle.lf_kernel.specs.Heads.{typing_at, declared_type, seen_type}
 use Rattle.lf_kernel.proofs.Heads.{typing_under-constant}
 use Rattle.file_trees.specs.declared.span.Span.{Span}
 use Rattle.file_trees.specs.Trees.{Tree, leaf, abstraction}

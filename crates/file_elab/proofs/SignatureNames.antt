@@ -1,5 +1,5 @@
 -- In a well-formed signature a name is that of one family, or of one constant, or of neither.
-use Rattle.std.proofs.Common.{◌≡◌, ◌≢◌, ◌⊎◌, ℕ, zero, suc, ◌<◌, Bool, true, false, Option, Some, None, List, [], ◌∷◌, length, get_or, All, AllPairs, refl, sym, ◌∙◌, inl, inr, ⊎_elim, arith}
+use Rattle.std.proofs.Common.{◌≡◌, ◌≢◌, ◌⊎◌, ℕ, suc, ◌<◌, true, false, Option, Some, None, List, [], ◌∷◌, length, get_or, All, AllPairs, refl, sym, ◌∙◌, inl, inr, ⊎_elim, arith}
 use Rattle.std.specs.Prelude.{slice_get}
 use Rattle.std.specs.Str.{bytes_eq}
 use Rattle.std.proofs.lemmas.Bool.{cases_Bool, cases_lt, false≢true}
@@ -11,7 +11,7 @@ use Rattle.lf_definitions.specs.Signatures.{family_entry, constant_entry, LfSign
 use Rattle.lf_definitions.proofs.Growth.{names_differ}
 use Rattle.lf_terms.specs.Places.{place_of}
 use Rattle.lf_terms.specs.Finding.{Finds}
-use Rattle.lf_terms.specs.declared.found.Found.TheVariants.{Family, Const, Absent}
+use Rattle.lf_terms.specs.declared.found.Found.TheVariants.{Family, Const}
 use Rattle.lf_terms.proofs.NamePlaces.{place_found, place_absent, place_new}
 
 abbrev Name : Type 0

@@ -1,5 +1,5 @@
 -- The binders that a type begins with, and what comes after them.
-use Rattle.std.specs.Prelude.{◌≡◌, ℕ, suc, List, ◌++◌, length, Option, None}
+use Rattle.std.specs.Prelude.{◌≡◌, ℕ, List, ◌++◌, length, Option, None}
 use Rattle.lf_definitions.specs.Syntax.{LfType, pis, Context, LfKind}
 use Rattle.lf_definitions.specs.Typing.{Typing, with_context}
 use Rattle.lf_definitions.specs.Signatures.{LfSignature}

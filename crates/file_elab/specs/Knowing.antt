@@ -1,5 +1,5 @@
 -- What is known at a place in a term or a type.
-use Rattle.std.specs.Prelude.{◌≡◌, ℕ, ◌<◌, List, [], length, Some}
+use Rattle.std.specs.Prelude.{◌≡◌, ℕ, ◌<◌, [], length, Some}
 use Rattle.lf_definitions.specs.Syntax.{bound, constant, metavariable, LfType}
 use Rattle.lf_definitions.specs.Shaping.{ShapedType}
 use Rattle.lf_definitions.specs.Typing.{Typing, Kinds, shapes_of}

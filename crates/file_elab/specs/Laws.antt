@@ -1,5 +1,5 @@
 -- Laws of what is read.
-use Rattle.std.specs.Prelude.{ℕ, []}
+use Rattle.std.specs.Prelude.{[]}
 use Rattle.lf_definitions.specs.Syntax.{LfType, LfKind}
 use Rattle.lf_definitions.specs.Typing.{Formed, FormedKind}
 use Rattle.lf_definitions.specs.Signatures.{LfSignature, kinds_in, typing_in, FormedSignature}

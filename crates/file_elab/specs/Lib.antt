@@ -10,3 +10,4 @@ pub mod Binding
 pub mod Knowing
 pub mod Passing
 pub mod Fronts
+pub mod Programming

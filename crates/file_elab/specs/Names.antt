@@ -1,5 +1,5 @@
 -- What the names in a file stand for.
-use Rattle.std.specs.Prelude.{◌≡◌, ℕ, suc, List, [], ◌∷◌, Option, Some, None, option_map, if◌then◌else◌, slice_range, nat_eq}
+use Rattle.std.specs.Prelude.{ℕ, suc, List, [], ◌∷◌, Option, Some, None, option_map, if◌then◌else◌, slice_range, nat_eq}
 use Rattle.std.specs.Str.{bytes_eq}
 use Rattle.lex_text.specs.declared.token.Token.{Token}
 use Rattle.lex_text.specs.Tokens.{text_of}

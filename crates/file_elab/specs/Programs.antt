@@ -1,5 +1,5 @@
 -- The program of a file: its declarations are taken in order, each over those before it, up to the first that is refused.
-use Rattle.std.specs.Prelude.{◌≡◌, ◌≢◌, ℕ, ◌<◌, ◌≤◌, List, [], ◌∷◌, ◌++◌, length, map, take, Option, Some, None, slice_get, Contains}
+use Rattle.std.specs.Prelude.{◌≡◌, ℕ, ◌<◌, ◌≤◌, List, [], ◌∷◌, ◌++◌, length, map, Option, Some, None, Contains}
 use Rattle.lex_text.specs.declared.token.Token.{Token}
 use Rattle.lex_text.specs.Tokens.{TokensOf}
 use Rattle.lf_terms.specs.Places.{place_of}

@@ -40,17 +40,18 @@ builder_of build_words.Cases = Cases
 builder_of build_words.Forward = Forward
 builder_of build_words.Destruct = Destruct
 
+-- a family, where it has a list
+abbrev pub family_if : ℕ → Option (List ℕ) → Option ℕ
+family_if f None = None
+family_if f (Some constants) = Some f
+
+abbrev pub listed_family : Book → Option ℕ → Option ℕ
+listed_family book None = None
+listed_family book (Some f) = family_if f (list_of book.lists f)
+
 -- The subject is a constant, or for constructors a family with a list of them.
 abbrev pub subject_of : LfSignature → Book → Builder → List ℕ → Option ℕ
-subject_of sig book Constructors name = listed (place_of (family_names sig) name)
-  where
-    listed_by : ℕ → Option (List ℕ) → Option ℕ
-    listed_by f None = None
-    listed_by f (Some constants) = Some f
-
-    listed : Option ℕ → Option ℕ
-    listed None = None
-    listed (Some f) = listed_by f (list_of book.lists f)
+subject_of sig book Constructors name = listed_family book (place_of (family_names sig) name)
 subject_of sig book _ name = place_of (constant_names sig) name
 
 -- the number of the major argument: none is 0

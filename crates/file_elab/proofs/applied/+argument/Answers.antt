@@ -1,7 +1,6 @@
-use Rattle.std.proofs.Common.{◌≡◌, ℕ, ◌+◌, ◌-◌, ◌<◌, List, [], ◌++◌, Some, length, arith, sym, ap, ◌∙◌, subst, length-append}
+use Rattle.std.proofs.Common.{◌≡◌, ◌+◌, [], length, arith, sym, ap, ◌∙◌, length-append}
 use Rattle.std.specs.Prelude.{slice_get}
-use Rattle.file_trees.specs.Trees.{Tree, head}
-use Rattle.file_trees.specs.TermViews.{tree_of, trees_of}
+use Rattle.file_trees.specs.TermViews.{tree_of}
 use Rattle.file_trees.proofs.Heads.{head_falls}
 use Rattle.file_elab.specs.Applied.{arguments_of}
 use Rattle.file_elab.proofs.Applications.{arguments_of_application, slice_get-append_within, slice_get-append_past, length-trees_of, slice_get-trees_of}

@@ -1,4 +1,3 @@
-use Rattle.std.proofs.Common.{[]}
 use Rattle.file_elab.proofs.ReadTyped.{Formed-ReadsType, FormedKind-ReadsKind, Founded-typing_in}
 use Rattle.file_elab.proofs.laws.what_is_read_is_formed.Goals as goal
 

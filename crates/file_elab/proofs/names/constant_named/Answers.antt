@@ -1,6 +1,6 @@
-use Rattle.std.proofs.Common.{subst, subst₂}
+use Rattle.std.proofs.Common.{subst₂}
 use Rattle.lf_terms.specs.Finding.{Finds}
-use Rattle.file_elab.proofs.SignatureNames.{find_constant, find_no_constant, absent_constant, find_family, find_no_family, absent_family}
+use Rattle.file_elab.proofs.SignatureNames.{find_constant, find_no_constant, absent_constant}
 use Rattle.file_elab.proofs.names.constant_named.Goals as goal
 
 pub returns-in-Const : goal.returns-in-Const

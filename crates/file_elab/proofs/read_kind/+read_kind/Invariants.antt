@@ -1,10 +1,5 @@
-use Rattle.std.proofs.Common.{◌+◌, ◌*◌, drop}
-use Rattle.file_trees.specs.Trees.{classifier_size, bindings_size}
-use Rattle.file_trees.specs.TypeViews.{bindings_of}
-use Rattle.lf_terms.specs.Types.{types_of}
-use Rattle.file_elab.specs.Fronts.{OpensKind}
-use Rattle.file_elab.specs.Knowing.{typing_of}
-use Rattle.file_elab.specs.Sources.{text_in}
+use Rattle.std.proofs.Common.{◌+◌, ◌*◌}
+use Rattle.file_trees.specs.Trees.{classifier_size}
 use Rattle.file_elab.proofs.Lasts.{last_measure}
 use Rattle.file_elab.proofs.read_kind.+read_kind.Given as goal
 

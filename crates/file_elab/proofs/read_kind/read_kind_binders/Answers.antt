@@ -1,17 +1,14 @@
-use Rattle.std.proofs.Common.{◌≡◌, ◌∷◌, ◌++◌, ◌<◌, ◌≤◌, ◌+◌, [], ℕ, List, arith, refl, sym, ap, ◌∙◌, subst, subst₂, length, drop, append_assoc}
-use Rattle.lf_definitions.specs.Syntax.{Context}
+use Rattle.std.proofs.Common.{◌≡◌, ◌∷◌, ◌++◌, ◌+◌, [], arith, sym, ap, ◌∙◌, subst, subst₂, drop}
 use Rattle.lf_definitions.specs.Typing.{with_context}
 use Rattle.lf_terms.specs.Types.{type_of, types_of}
-use Rattle.lf_terms.proofs.TypeLists.{length-types_of, types_of-append}
-use Rattle.file_trees.specs.Trees.{Classifier, Binding, bind, classifier_size}
-use Rattle.file_trees.specs.TypeViews.{binding_of, bindings_of, last_of}
-use Rattle.file_elab.specs.Fronts.{binding_place, domain_of, bound_of, OpensKind, RefusesKindAfter}
+use Rattle.lf_terms.proofs.TypeLists.{types_of-append}
+use Rattle.file_trees.specs.Trees.{Classifier, bind}
+use Rattle.file_trees.specs.TypeViews.{binding_of, bindings_of}
+use Rattle.file_elab.specs.Fronts.{bound_of, OpensKind, RefusesKindAfter}
 use Rattle.file_elab.specs.Knowing.{KnownAt, typing_of}
 use Rattle.file_elab.specs.Sources.{text_in}
-use Rattle.file_elab.specs.Types.{ReadsType, RefusesType, ReadsKind, reads_type_word, refuses_kind_family}
-use Rattle.file_elab.specs.declared.elab_fault.ElabFault.{ElabFault}
-use Rattle.file_elab.specs.declared.elab_fault.ElabFault.TheVariants.{TooMany, Unknown}
-use Rattle.file_elab.proofs.Lasts.{last_falls, binders_fall, bindings_of-drop, length-bindings_of, same_binding, domain_falls}
+use Rattle.file_elab.specs.Types.{ReadsType, RefusesType}
+use Rattle.file_elab.proofs.Lasts.{bindings_of-drop, length-bindings_of, same_binding}
 use Rattle.file_elab.proofs.KindOpenings.{opens_no_kind, kind_domain_refused, opens_more_kind}
 use Rattle.file_elab.proofs.Openings.{past_all}
 use Rattle.file_elab.proofs.Reading.{IsRefusal-map}

@@ -1,15 +1,14 @@
-use Rattle.std.proofs.Common.{◌≡◌, ◌∷◌, ◌++◌, ◌<◌, ◌≤◌, ◌+◌, [], ℕ, List, arith, refl, sym, ap, ◌∙◌, subst, subst₂, length, drop}
+use Rattle.std.proofs.Common.{◌≡◌, ◌∷◌, ◌++◌, ◌<◌, ◌+◌, [], arith, sym, ap, ◌∙◌, subst, subst₂, length, drop}
 use Rattle.lf_definitions.specs.Syntax.{pis}
 use Rattle.lf_definitions.specs.Typing.{with_context}
 use Rattle.lf_terms.specs.Types.{type_of, types_of}
 use Rattle.lf_terms.proofs.TypeLists.{length-types_of, types_of-append}
-use Rattle.file_trees.specs.Trees.{Classifier, Binding, bind, classifier_size}
+use Rattle.file_trees.specs.Trees.{Classifier, bind, classifier_size}
 use Rattle.file_trees.specs.TypeViews.{binding_of, bindings_of, last_of}
-use Rattle.file_elab.specs.Fronts.{binding_place, domain_of, bound_of, Opens, RefusesAfter}
+use Rattle.file_elab.specs.Fronts.{bound_of, Opens, RefusesAfter}
 use Rattle.file_elab.specs.Knowing.{KnownAt, typing_of}
 use Rattle.file_elab.specs.Sources.{text_in}
 use Rattle.file_elab.specs.Types.{ReadsType, RefusesType, refuses_word}
-use Rattle.file_elab.specs.declared.elab_fault.ElabFault.{ElabFault}
 use Rattle.file_elab.specs.declared.elab_fault.ElabFault.TheVariants.{TooMany, Unknown}
 use Rattle.file_elab.proofs.EtaTyping.{pis-append}
 use Rattle.file_elab.proofs.Lasts.{last_falls, binders_fall, bindings_of-drop, length-bindings_of, same_binding, domain_falls}

@@ -1,6 +1,6 @@
-use Rattle.std.proofs.Common.{◌≡◌, arith, ◌∙◌, sym}
+use Rattle.std.proofs.Common.{◌∙◌, sym}
 use Rattle.std.proofs.lemmas.Result.{IfOk-weaker}
-use Rattle.lf_definitions.specs.Syntax.{shape_of, arity}
+use Rattle.lf_definitions.specs.Syntax.{shape_of}
 use Rattle.lf_terms.specs.Terms.{head_of, spine_of}
 use Rattle.lf_terms.specs.Types.{type_of}
 use Rattle.file_elab.proofs.Expanding.{arity_of_type, expanded_none, puts_raised, seen_spine, expanded_some}

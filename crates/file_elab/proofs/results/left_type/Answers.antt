@@ -1,4 +1,4 @@
-use Rattle.std.proofs.Common.{◌≡◌, ◌≤◌, length, drop, arith, sym, ap, ap₂, subst, ◌∙◌}
+use Rattle.std.proofs.Common.{◌≤◌, length, drop, sym, ap, ap₂, subst, ◌∙◌}
 use Rattle.lf_definitions.specs.Syntax.{pis, family}
 use Rattle.file_elab.proofs.results.left_type.Goals as goal
 

@@ -1,4 +1,4 @@
-use Rattle.std.proofs.Common.{◌+◌, ◌-◌, ◌<◌, ◌≤◌, ◌/◌, length, arith}
+use Rattle.std.proofs.Common.{◌+◌, ◌-◌, ◌<◌, ◌/◌, length, arith}
 use Rattle.file_elab.proofs.TokenPlaces.{before_middle, after_middle}
 use Rattle.file_elab.proofs.source.before.Goals as goal
 

@@ -1,5 +1,4 @@
-use Rattle.std.proofs.Common.{◌≡◌, ℕ, ◌+◌, suc, List, Option, Some, sym, ap, ◌∙◌, arith, get_or}
-use Rattle.lex_text.specs.Tokens.{text_of}
+use Rattle.std.proofs.Common.{◌+◌, Some, sym, ap, ◌∙◌, arith}
 use Rattle.file_elab.proofs.TokenPlaces.{default_free, found, found_last, found_none}
 use Rattle.file_elab.proofs.source.binder.Goals as goal
 

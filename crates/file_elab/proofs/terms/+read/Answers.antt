@@ -1,4 +1,4 @@
-use Rattle.std.proofs.Common.{◌≡◌, ◌∷◌, ◌<◌, ◌≤◌, ◌+◌, [], ℕ, suc, Option, Some, option_map, rules, arith, refl, sym, ap, ◌∙◌, subst, subst₂, length, take, take_all, length-append}
+use Rattle.std.proofs.Common.{◌≡◌, ◌∷◌, ◌≤◌, ◌+◌, [], Some, option_map, rules, arith, refl, sym, ap, ◌∙◌, subst, subst₂, length, take, take_all, length-append}
 use Rattle.std.specs.Prelude.{slice_get}
 use Rattle.std.proofs.lemmas.Bool.{false≢true}
 use Rattle.std.proofs.lemmas.List.{length-take-le}
@@ -36,7 +36,7 @@ use Rattle.file_elab.specs.declared.elab_fault.ElabFault.TheVariants.{IllTyped}
 use Rattle.file_elab.proofs.Applications.{argument_size, base_size, never_applied}
 use Rattle.file_elab.proofs.Applying.{typed_before, argument_read, argument_refused, arguments_read, type_after_puts}
 use Rattle.file_elab.proofs.Expanding.{length-shapes_of_types}
-use Rattle.file_elab.proofs.Reading.{IsRefusal-map, first_binder, some_binder, known_under, wanted_binder, wanted_under, abstraction_ill, abstraction_redex, abstraction_read, abstraction_refused, head_typed, head_is, seen_types, arguments_typed, shaped_take, result_seen, application_read, application_differs}
+use Rattle.file_elab.proofs.Reading.{IsRefusal-map, first_binder, some_binder, known_under, wanted_binder, wanted_under, abstraction_ill, abstraction_redex, abstraction_read, abstraction_refused, head_typed, head_is, arguments_typed, shaped_take, result_seen, application_read, application_differs}
 use Rattle.file_elab.proofs.terms.+read.Goals as goal
 
 pub read_term-unreachable-requires : goal.read_term-unreachable-requires

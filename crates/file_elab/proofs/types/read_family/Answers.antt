@@ -1,4 +1,4 @@
-use Rattle.std.proofs.Common.{◌≡◌, ◌<◌, ◌≤◌, ℕ, Some, None, arith, refl, sym, ap, ◌∙◌, subst, subst₂, length, take, take_all}
+use Rattle.std.proofs.Common.{◌≡◌, ℕ, Some, arith, sym, ap, ◌∙◌, subst, length, take, take_all}
 use Rattle.std.specs.Prelude.{slice_get}
 use Rattle.lf_definitions.specs.Substitution.{stays}
 use Rattle.lf_terms.specs.Terms.{spine_of}
@@ -9,7 +9,6 @@ use Rattle.file_elab.specs.Names.{family_of}
 use Rattle.file_elab.specs.Sources.{text_in}
 use Rattle.file_elab.specs.Terms.{ReadsArguments, RefusesArguments}
 use Rattle.file_elab.specs.Types.{ReadsType, reads_family, RefusesType, refuses_family, refuses_few, refuses_family_argument, refuses_family_extra}
-use Rattle.file_elab.specs.declared.elab_fault.ElabFault.{ElabFault}
 use Rattle.file_elab.specs.declared.elab_fault.ElabFault.TheVariants.{IllTyped}
 use Rattle.lf_definitions.specs.Syntax as syntax
 use Rattle.file_elab.proofs.Applications.{length-trees_of, slice_get-trees_of}

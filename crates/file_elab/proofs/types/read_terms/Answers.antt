@@ -1,12 +1,11 @@
-use Rattle.std.proofs.Common.{◌≡◌, ◌∷◌, ◌<◌, ◌+◌, [], ℕ, rules, arith, refl, sym, ap, ◌∙◌, subst, subst₂, length, take, take_all, length-append}
+use Rattle.std.proofs.Common.{◌≡◌, ◌∷◌, ◌+◌, [], arith, refl, sym, ap, ◌∙◌, subst, length, take, take_all, length-append}
 use Rattle.std.proofs.lemmas.List.{length-take-le}
-use Rattle.lf_definitions.specs.Renaming.{next_by, rename_context}
 use Rattle.lf_definitions.specs.Substitution.{stays, SubstitutedType}
 use Rattle.lf_definitions.specs.ShapedGoals.{ShapedContext, kind_shapes_in}
 use Rattle.lf_terms.specs.Putting.{putting, Puts, TypeShaped}
 use Rattle.lf_terms.specs.Terms.{term_of, spine_of}
 use Rattle.lf_terms.specs.Shapes.{simple_types_of}
-use Rattle.lf_terms.specs.Types.{type_of, types_of}
+use Rattle.lf_terms.specs.Types.{type_of}
 use Rattle.lf_terms.proofs.TypeLists.{length-types_of}
 use Rattle.lf_kernel.specs.Knowing.{binders_scope}
 use Rattle.lf_kernel.proofs.Expected.{shapes_and_types, shapes_of_read, puts_binder, binder_expected}
@@ -17,7 +16,7 @@ use Rattle.file_elab.specs.Terms.{ReadsTerm, ReadsArguments, reads_none, Refuses
 use Rattle.file_elab.proofs.Applications.{length-trees_of, slice_get-trees_of}
 use Rattle.file_elab.proofs.Applying.{typed_before, argument_read, argument_refused, arguments_read}
 use Rattle.file_elab.proofs.Families.{not_raised}
-use Rattle.file_elab.proofs.Reading.{IsRefusal-map, seen_types}
+use Rattle.file_elab.proofs.Reading.{IsRefusal-map}
 use Rattle.file_elab.proofs.types.read_terms.Goals as goal
 
 pub loop-i-init : goal.loop-i-init

@@ -1,4 +1,4 @@
-use Rattle.std.proofs.Common.{◌≡◌, ◌≤◌, [], length, take}
+use Rattle.std.proofs.Common.{◌≡◌, length, take}
 use Rattle.lf_definitions.specs.Substitution.{stays}
 use Rattle.lf_terms.specs.Terms.{spine_of}
 use Rattle.file_trees.specs.TermViews.{trees_of}

@@ -1,0 +1,23 @@
+use Rattle.std.proofs.Common.{[], sym, subst}
+use Rattle.lf_definitions.specs.Signatures.{typing_in}
+use Rattle.file_elab.specs.Knowing.{KnownAt, IsRefusal}
+use Rattle.file_elab.specs.Sources.{text_in}
+use Rattle.file_elab.specs.Types.{RefusesType}
+use Rattle.file_elab.proofs.ReadTyped.{Formed-ReadsType, Founded-typing_in}
+use Rattle.file_elab.proofs.Closed.{known_closed}
+use Rattle.file_elab.proofs.symbols.closed_type.Goals as goal
+
+pub read_type-requires-clause-known : goal.read_type-requires-clause-known
+read_type-requires-clause-known c =
+    let sig = c.args.sig.now in
+    subst (KnownAt sig (typing_in sig [] [])) (sym c.new-names.ensures) (known_closed sig c.is_formed.ensures)
+
+pub returns-clause-formed : goal.returns-clause-formed
+returns-clause-formed c =
+    let sig = c.args.sig.now in
+    Formed-ReadsType c.in-Ok.ensures.read (Founded-typing_in sig c.is_formed.ensures)
+
+pub returns-in-Err-clause-refused : goal.returns-in-Err-clause-refused
+returns-in-Err-clause-refused c =
+    let sig = c.args.sig.now in
+    subst (λ b. IsRefusal (RefusesType (text_in c.args.source.now) sig b (typing_in sig [] []) 0 c.args.tree.now) c.in-Err.fault) c.new-names.ensures c.in-Err.ensures.refused

@@ -1,0 +1,99 @@
+//! The parts of a rule.
+
+ghost use Rattle.std.specs.Prelude.{◌≡◌, ◌<◌, ◌^◌, ℕ, pos, IfOk, IfSome, IfNone};
+ghost use Rattle.file_elab.specs.Names.{text_at};
+ghost use Rattle.file_elab.specs.Rules.{number_value, ReadsPhase, builder_of, subject_of, major_value, set_of};
+ghost use Rattle.file_elab.specs.Sources.{text_in};
+ghost use Rattle.rule_sets.specs.declared.rule.Phase.{Phase};
+ghost use Rattle.rule_sets.specs.Tests.{IsChosen};
+
+use crate::names::{constant_named, family_named};
+use crate::number::{natural, penalty};
+use crate::source::{Source, text};
+use file_trees::{BuildWord, PhaseWord, Span};
+use lf_terms::{Name, NoMemory, Signature};
+use rule_sets::{Builder, Phase, RuleBook};
+use std::alloc::Global;
+
+/// The phase of a rule with its number, if that may stand there.
+pub fn read_phase(word: PhaseWord, text: &[u8]) -> Option<Phase>
+    ensures some { IfSome result (ReadsPhase word (number_value text.now)) }
+    ensures none { IfNone result ((phase : Phase) → ReadsPhase word (number_value text.now) phase → ⊥) }
+{
+    match word {
+        PhaseWord::Norm => match penalty(text) {
+            None => None,
+            Some(number) => Some(Phase::Norm(number)),
+        },
+        PhaseWord::Safe => match penalty(text) {
+            None => None,
+            Some(number) => Some(Phase::Safe(number)),
+        },
+        PhaseWord::Unsafe => match natural(text) {
+            None => None,
+            Some(percent) => {
+                if percent > 100 {
+                    return None;
+                }
+                Some(Phase::Unsafe(percent as u8))
+            }
+        },
+    }
+}
+
+/// The builder that a word names.
+pub fn read_builder(word: BuildWord) -> Builder
+    ensures is { result ≡ builder_of word }
+    ensures chosen { IsChosen result }
+{
+    match word {
+        BuildWord::Apply => Builder::Apply,
+        BuildWord::Constructors => Builder::Constructors,
+        BuildWord::Cases => Builder::Cases,
+        BuildWord::Forward => Builder::Forward,
+        BuildWord::Destruct => Builder::Destruct,
+    }
+}
+
+/// The constant that a rule is made of, or for constructors the family with a list of them.
+pub fn read_subject(
+    alloc: Global,
+    sig: &Signature,
+    book: &RuleBook,
+    builder: Builder,
+    name: &[u8],
+) -> Result<Option<u32>, NoMemory>
+    ensures { IfOk result (λ found. found ≡ subject_of sig.now book.now builder name.now) }
+{
+    match builder {
+        Builder::Constructors => match family_named(alloc, sig, name)? {
+            None => Ok(None),
+            Some(family) => match book.ctors(family) {
+                None => Ok(None),
+                Some(_) => Ok(Some(family)),
+            },
+        },
+        _ => constant_named(alloc, sig, name),
+    }
+}
+
+/// The number of the major argument, which is 0 where there is none.
+pub fn read_major(source: &Source<'_>, major: Option<Span>) -> Option<u32>
+    ensures some { IfSome result (λ number. major_value (text_in source.now) major ≡ pos number) }
+    ensures none { IfNone result ((number : ℕ) → number < 2 ^ 32 → major_value (text_in source.now) major ≡ pos number → ⊥) }
+{
+    match major {
+        None => Some(0),
+        Some(span) => natural(text(source, span)),
+    }
+}
+
+/// The set that a rule is in.
+pub fn read_set(alloc: Global, source: &Source<'_>, set: Option<Span>) -> Result<Name, NoMemory>
+    ensures { IfOk result (λ name. name ≡ set_of (text_in source.now) set) }
+{
+    match set {
+        None => Name::from_slice(alloc, b"default"),
+        Some(span) => Name::from_slice(alloc, text(source, span)),
+    }
+}
