@@ -2,8 +2,8 @@ pub mod Fronts
 pub mod Forms
 pub mod Unique
 pub mod Order
-mod Places
-mod Longest
+pub mod Places
+pub mod Longest
 mod Lexemes
 mod Cutting
 mod Utf8
