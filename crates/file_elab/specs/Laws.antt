@@ -1,15 +1,20 @@
--- Laws of what is read.
-use Rattle.std.specs.Prelude.{[]}
-use Rattle.lf_definitions.specs.Syntax.{LfType, LfKind}
-use Rattle.lf_definitions.specs.Typing.{Formed, FormedKind}
-use Rattle.lf_definitions.specs.Signatures.{LfSignature, kinds_in, typing_in, FormedSignature}
-use Rattle.file_trees.specs.Trees.{Classifier}
-use Rattle.file_elab.specs.Names.{Text}
-use Rattle.file_elab.specs.Types.{ReadsType, ReadsKind}
+-- Laws of programs.
+use Rattle.std.specs.Prelude.{◌≡◌, ℕ, List}
+use Rattle.file_trees.specs.declared.decl_tree.DeclTree.{DeclTree}
+use Rattle.elab_terms.specs.declared.elab_fault.ElabFault.{ElabFault}
+use Rattle.file_elab.specs.Programs.{LfProgram, IsParsedFrom, IsProgram, IsRefused}
+use Rattle.file_elab.specs.GrammarNames.{HasGrammarNames}
 
--- Over a well-formed signature the types that are read are well formed, and so are the kinds.
-abbrev pub WhatIsReadIsFormed : Type 0
-WhatIsReadIsFormed =
-    (text : Text) (sig : LfSignature) → FormedSignature sig →
-    ((tree : Classifier) (a : LfType) → ReadsType text sig [] (typing_in sig [] []) 0 tree a → Formed (kinds_in sig) (typing_in sig [] []) a)
-    × ((tree : Classifier) (kind : LfKind) → ReadsKind text sig [] (typing_in sig [] []) tree kind → FormedKind (kinds_in sig) (typing_in sig [] []) kind)
+-- A file has one program at most, it is refused for no fault where it has one, and for one fault at most.
+abbrev pub AFileHasOneProgram : Type 0
+AFileHasOneProgram =
+    (bytes : List ℕ) (declarations : List DeclTree) →
+    ((program other : LfProgram) → IsProgram bytes declarations program → IsProgram bytes declarations other → program ≡ other)
+    × ((program : LfProgram) (fault : ElabFault) → IsProgram bytes declarations program → IsRefused bytes declarations fault → ⊥)
+    × ((fault other : ElabFault) → IsRefused bytes declarations fault → IsRefused bytes declarations other → fault ≡ other)
+
+-- The names of the program of a file are names of the grammar.
+abbrev pub ProgramsHaveGrammarNames : Type 0
+ProgramsHaveGrammarNames =
+    (bytes : List ℕ) (declarations : List DeclTree) (program : LfProgram) →
+    IsParsedFrom bytes declarations → IsProgram bytes declarations program → HasGrammarNames program

@@ -5,6 +5,7 @@ use Rattle.lex_text.specs.Tokens.{TokensOf}
 use Rattle.lf_terms.specs.Places.{place_of}
 use Rattle.lf_definitions.specs.Syntax.{LfType, LfKind}
 use Rattle.lf_definitions.specs.Signatures.{LfSignature, family_entry, constant_entry, names_of, family_names, constant_names, typing_in}
+use Rattle.file_syntax.specs.Files.{IsParsed}
 use Rattle.file_trees.specs.declared.span.Span.{Span}
 use Rattle.file_trees.specs.declared.decl_tree.DeclTree.{DeclTree}
 use Rattle.file_trees.specs.declared.decl_tree.DeclTree.TheVariants.{Family, Const, Theorem, Rule as rule_tree, Ctors}
@@ -14,15 +15,12 @@ use Rattle.file_trees.specs.Trees.{Classifier}
 use Rattle.rule_sets.specs.declared.rule.Rule.{Rule}
 use Rattle.rule_sets.specs.Books.{Book, first_book, list_of}
 use Rattle.rule_sets.specs.Refusals.{HasFamily, AreConstructors}
-use Rattle.file_elab.specs.Names.{Text, text_at}
-use Rattle.file_elab.specs.Types.{ReadsType, RefusesType, ReadsKind, RefusesKind}
+use Rattle.elab_terms.specs.Names.{Text, text_at}
+use Rattle.elab_terms.specs.Types.{ReadsType, RefusesType, ReadsKind, RefusesKind}
 use Rattle.file_elab.specs.Rules.{ReadsRule, RefusesRule}
-use Rattle.file_elab.specs.declared.elab_fault.ElabFault.{ElabFault}
-use Rattle.file_elab.specs.declared.elab_fault.ElabFault.TheVariants.{Taken, TooMany, Unknown, BadRule}
-
-pub record LfTheorem : Type 0 where
-  pub name : List ℕ
-  pub type : LfType
+use Rattle.file_elab.specs.Theorems.{LfTheorem}
+use Rattle.elab_terms.specs.declared.elab_fault.ElabFault.{ElabFault}
+use Rattle.elab_terms.specs.declared.elab_fault.ElabFault.TheVariants.{Taken, TooMany, Unknown, BadRule}
 
 pub record LfProgram : Type 0 where
   pub signature : LfSignature
@@ -138,6 +136,10 @@ pub data DeclaresAll (text : Text) : LfProgram → List DeclTree → LfProgram �
   declares_nothing : (program : LfProgram) → DeclaresAll text program [] program
   declares_next : (old between new : LfProgram) (declaration : DeclTree) (declarations : List DeclTree) → Declares text old declaration between →
       DeclaresAll text between declarations new → DeclaresAll text old (declaration ∷ declarations) new
+
+-- The declarations are those of the bytes by the grammar.
+abbrev pub IsParsedFrom : List ℕ → List DeclTree → Type 0
+IsParsedFrom bytes declarations = (tokens : List Token) × TokensOf bytes tokens × IsParsed bytes tokens declarations
 
 -- The text of a file is its bytes with their tokens. This is the program of its declarations.
 abbrev pub IsProgram : List ℕ → List DeclTree → LfProgram → Type 0

@@ -14,9 +14,9 @@ use Rattle.rule_sets.specs.declared.rule.Builder.TheVariants.{Apply, Constructor
 use Rattle.rule_sets.specs.declared.rule.Rule.{Rule}
 use Rattle.rule_sets.specs.Books.{Book, list_of}
 use Rattle.rule_sets.specs.Refusals.{IsMajor, HasBadPremises}
-use Rattle.file_elab.specs.Names.{Text, text_at}
-use Rattle.file_elab.specs.declared.elab_fault.ElabFault.{ElabFault}
-use Rattle.file_elab.specs.declared.elab_fault.ElabFault.TheVariants.{Unknown, BadRule}
+use Rattle.elab_terms.specs.Names.{Text, text_at}
+use Rattle.elab_terms.specs.declared.elab_fault.ElabFault.{ElabFault}
+use Rattle.elab_terms.specs.declared.elab_fault.ElabFault.TheVariants.{Unknown, BadRule}
 
 -- the value of digits
 abbrev pub digits_value : List ℕ → ℕ

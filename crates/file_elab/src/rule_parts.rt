@@ -1,15 +1,15 @@
 //! The parts of a rule.
 
 ghost use Rattle.std.specs.Prelude.{◌≡◌, ◌<◌, ◌^◌, ℕ, pos, IfOk, IfSome, IfNone};
-ghost use Rattle.file_elab.specs.Names.{text_at};
+ghost use Rattle.elab_terms.specs.Names.{text_at};
 ghost use Rattle.file_elab.specs.Rules.{number_value, ReadsPhase, builder_of, subject_of, major_value, set_of};
-ghost use Rattle.file_elab.specs.Sources.{text_in};
+ghost use Rattle.elab_terms.specs.Sources.{text_in};
 ghost use Rattle.rule_sets.specs.declared.rule.Phase.{Phase};
 ghost use Rattle.rule_sets.specs.Tests.{IsChosen};
 
-use crate::names::{constant_named, family_named};
 use crate::number::{natural, penalty};
-use crate::source::{Source, text};
+use elab_terms::names::{constant_named, family_named};
+use elab_terms::source::{Source, text};
 use file_trees::{BuildWord, PhaseWord, Span};
 use lf_terms::{Name, NoMemory, Signature};
 use rule_sets::{Builder, Phase, RuleBook};

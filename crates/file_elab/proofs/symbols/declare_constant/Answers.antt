@@ -6,9 +6,9 @@ use Rattle.lf_terms.proofs.NamePlaces.{place_absent}
 use Rattle.file_trees.specs.declared.decl_tree.DeclTree.TheVariants as declarations
 use Rattle.file_elab.specs.Programming.{program_with, RefusesSymbol}
 use Rattle.file_elab.specs.Programs.{RefusesName, most_symbols, Declares, declares_constant, refuses_constant_name, refuses_constant_type}
-use Rattle.file_elab.specs.Sources.{text_in}
-use Rattle.file_elab.specs.Types.{RefusesType}
-use Rattle.file_elab.proofs.Reading.{IsRefusal-map}
+use Rattle.elab_terms.specs.Sources.{text_in}
+use Rattle.elab_terms.specs.Types.{RefusesType}
+use Rattle.elab_terms.proofs.Reading.{IsRefusal-map}
 use Rattle.file_elab.proofs.symbols.declare_constant.Goals as goal
 
 pub push_const-requires-clause-is_new : goal.push_const-requires-clause-is_new

@@ -5,9 +5,9 @@ use Rattle.lf_terms.proofs.NamePlaces.{place_absent}
 use Rattle.file_trees.specs.declared.decl_tree.DeclTree.TheVariants as declarations
 use Rattle.file_elab.specs.Programming.{program_with, RefusesSymbol}
 use Rattle.file_elab.specs.Programs.{RefusesName, most_symbols, Declares, declares_family, refuses_family_name, refuses_family_kind}
-use Rattle.file_elab.specs.Sources.{text_in}
-use Rattle.file_elab.specs.Types.{RefusesKind}
-use Rattle.file_elab.proofs.Reading.{IsRefusal-map}
+use Rattle.elab_terms.specs.Sources.{text_in}
+use Rattle.elab_terms.specs.Types.{RefusesKind}
+use Rattle.elab_terms.proofs.Reading.{IsRefusal-map}
 use Rattle.file_elab.proofs.symbols.declare_family.Goals as goal
 
 pub push_family-requires-clause-is_new : goal.push_family-requires-clause-is_new

@@ -1,0 +1,10 @@
+pub mod Names
+pub mod Applied
+pub mod Terms
+pub mod Types
+pub mod Laws
+pub mod Sources
+pub mod Binding
+pub mod Knowing
+pub mod Passing
+pub mod Fronts

@@ -1,0 +1,61 @@
+//! The binders of a type as they are written.
+
+ghost use Rattle.std.specs.Prelude.{◌≡◌, option_copied};
+ghost use Rattle.lex_text.specs.Tokens.{TokensOf};
+ghost use Rattle.file_trees.specs.TypeViews.{binding_of};
+ghost use Rattle.elab_terms.specs.Fronts.{domain_of, bound_of};
+ghost use Rattle.elab_terms.specs.Fronts as fronts;
+ghost use Rattle.elab_terms.specs.Sources.{text_in};
+ghost use Rattle.elab_terms.specs.Types.{classifier_place};
+
+use crate::source::{Source, binder};
+use file_trees::{Binder, Last, TypeTree};
+
+/// The place of a type: its first brace, or that of the left side of its arrow, or its family's name.
+#[cycle(type_place)]
+pub fn type_place(tree: &TypeTree) -> u32
+    ensures { result ≡ classifier_place tree.now }
+{
+    let (binders, last) = tree.parts();
+    let items = binders.as_slice();
+    if items.len() > 0 {
+        return binding_place(&items[0]);
+    }
+    match last {
+        Last::Fam(span, _) => span.start,
+        Last::Star(span) => span.start,
+        Last::Group(_) => unreachable!(),
+    }
+}
+
+/// The place at which a binder is refused where it is one too many.
+#[cycle(type_place)]
+pub fn binding_place(binding: &Binder) -> u32
+    ensures { result ≡ fronts.binding_place (binding_of binding.now) }
+{
+    match binding {
+        Binder::Pi(span, _) => span.start,
+        Binder::Arrow(left) => type_place(left),
+    }
+}
+
+/// The type of a binder.
+pub fn domain(binding: &Binder) -> &TypeTree
+    ensures { result.now ≡ domain_of (binding_of binding.now) }
+{
+    match binding {
+        Binder::Pi(_, domain) => domain,
+        Binder::Arrow(left) => left,
+    }
+}
+
+/// The name that a binder binds.
+pub fn bound_name<'a>(source: &Source<'a>, binding: &Binder) -> Option<&'a [u8]>
+    requires { TokensOf source.now.bytes.now source.now.tokens.now }
+    ensures { option_copied result ≡ bound_of (text_in source.now) (binding_of binding.now) }
+{
+    match binding {
+        Binder::Pi(span, _) => binder(source, *span),
+        Binder::Arrow(_) => None,
+    }
+}

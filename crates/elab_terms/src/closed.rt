@@ -1,0 +1,62 @@
+//! Types and kinds with no variables around them.
+
+ghost use Rattle.std.specs.Prelude.{◌≡◌, [], IfOk, IfErr};
+ghost use Rattle.lf_definitions.specs.Signatures.{kinds_in, typing_in};
+ghost use Rattle.lf_definitions.specs.Typing.{Formed, FormedKind};
+ghost use Rattle.lex_text.specs.Tokens.{TokensOf};
+ghost use Rattle.lf_terms.specs.Types.{type_of};
+ghost use Rattle.elab_terms.specs.Knowing.{IsRefusal};
+ghost use Rattle.elab_terms.specs.Sources.{text_in};
+ghost use Rattle.elab_terms.specs.Types.{ReadsType, RefusesType, ReadsKind, RefusesKind};
+
+use crate::binders::Binders;
+use crate::elab_fault::ElabFault;
+use crate::read_kind::read_kind;
+use crate::read_type::read_type;
+use crate::source::Source;
+use file_trees::TypeTree;
+use lf_kernel::scope::Scope;
+use lf_terms::{GoalList, Kind, Signature, Ty};
+use std::alloc::Global;
+
+/// Reads a type with no variables around it. It is well formed.
+pub fn closed_type(
+    alloc: Global,
+    source: &Source<'_>,
+    sig: &Signature,
+    tree: &TypeTree,
+) -> Result<Ty, ElabFault>
+    requires { TokensOf source.now.bytes.now source.now.tokens.now }
+    ensures read { IfOk result (λ ty. ReadsType (text_in source.now) sig.now [] (typing_in sig.now [] []) 0 tree.now (type_of ty)) }
+    ensures formed { IfOk result (λ ty. Formed (kinds_in sig.now) (typing_in sig.now [] []) (type_of ty)) }
+    ensures refused { IfErr result (IsRefusal (RefusesType (text_in source.now) sig.now [] (typing_in sig.now [] []) 0 tree.now)) }
+{
+    sig.is_formed();
+    let metas = GoalList::new(alloc);
+    let mut names = Binders::new(alloc);
+    match read_type(alloc, source, sig, &metas, &mut names, &Scope::Closed, tree) {
+        Err(fault) => Err(fault),
+        Ok(ty) => Ok(ty),
+    }
+}
+
+/// Reads a kind. It is well formed.
+pub fn closed_kind(
+    alloc: Global,
+    source: &Source<'_>,
+    sig: &Signature,
+    tree: &TypeTree,
+) -> Result<Kind, ElabFault>
+    requires { TokensOf source.now.bytes.now source.now.tokens.now }
+    ensures read { IfOk result (λ kind. ReadsKind (text_in source.now) sig.now [] (typing_in sig.now [] []) tree.now kind.binders) }
+    ensures formed { IfOk result (λ kind. FormedKind (kinds_in sig.now) (typing_in sig.now [] []) kind.binders) }
+    ensures refused { IfErr result (IsRefusal (RefusesKind (text_in source.now) sig.now [] (typing_in sig.now [] []) tree.now)) }
+{
+    sig.is_formed();
+    let metas = GoalList::new(alloc);
+    let mut names = Binders::new(alloc);
+    match read_kind(alloc, source, sig, &metas, &mut names, &Scope::Closed, tree) {
+        Err(fault) => Err(fault),
+        Ok(kind) => Ok(kind),
+    }
+}

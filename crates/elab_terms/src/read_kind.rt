@@ -1,0 +1,155 @@
+//! Reading a kind, binder by binder.
+
+ghost use Rattle.std.specs.Prelude.{◌≡◌, ℕ, List, [], IfOk, IfErr, OnOk};
+ghost use Rattle.lf_definitions.specs.Typing.{with_context};
+ghost use Rattle.lex_text.specs.Tokens.{TokensOf};
+ghost use Rattle.lf_terms.specs.Types.{types_of};
+ghost use Rattle.file_trees.specs.Trees.{Classifier, bind};
+ghost use Rattle.file_trees.specs.TypeViews.{bindings_of, last_of};
+ghost use Rattle.elab_terms.specs.Fronts.{OpensKind, ReadsKindAfter, RefusesKindAfter};
+ghost use Rattle.elab_terms.specs.Knowing.{KnownAt, IsRefusal, typing_of};
+ghost use Rattle.elab_terms.specs.Sources.{text_in};
+ghost use Rattle.elab_terms.specs.Types.{ReadsKind, RefusesKind};
+
+use crate::binders::Binders;
+use crate::binding::{bound_name, domain};
+use crate::elab_fault::ElabFault;
+use crate::read_type::read_type;
+use crate::source::Source;
+use file_trees::{Binder, Last, TypeTree};
+use lf_kernel::scope::Scope;
+use lf_terms::{GoalList, Kind, Signature, Ty, Tys};
+use std::alloc::Global;
+
+/// Reads a kind. However many binders it has, it is read without recursion over them.
+pub fn read_kind<'a>(
+    alloc: Global,
+    source: &'a Source<'a>,
+    sig: &'a Signature,
+    metas: &'a GoalList,
+    names: &mut Binders,
+    scope: &'a Scope<'a>,
+    tree: &'a TypeTree,
+) -> Result<Kind, ElabFault>
+    requires cut { TokensOf source.now.bytes.now source.now.tokens.now }
+    requires closed { metas.now ≡ [] }
+    requires known { KnownAt sig.now (typing_of sig.now scope.now) names.old }
+    ensures read { IfOk result (λ kind. ReadsKind (text_in source.now) sig.now names.old (typing_of sig.now scope.now) tree.now kind.binders) }
+    ensures refused { IfErr result (IsRefusal (RefusesKind (text_in source.now) sig.now names.old (typing_of sig.now scope.now) tree.now)) }
+    ensures names { OnOk result (names.new ≡ names.old) }
+{
+    let front = Vec::new(alloc);
+    match read_kind_rest(alloc, source, sig, metas, names, scope, front, tree) {
+        Err(fault) => Err(fault),
+        Ok(types) => {
+            let binders = Tys::from_vec(alloc, types)?;
+            Ok(Kind { binders })
+        }
+    }
+}
+
+// What comes after these binders of a kind.
+#[cycle(read_kind)]
+fn read_kind_rest<'a>(
+    alloc: Global,
+    source: &'a Source<'a>,
+    sig: &'a Signature,
+    metas: &'a GoalList,
+    names: &mut Binders,
+    scope: &'a Scope<'a>,
+    front: Vec<Ty>,
+    tree: &'a TypeTree,
+) -> Result<Vec<Ty>, ElabFault>
+    requires cut { TokensOf source.now.bytes.now source.now.tokens.now }
+    requires closed { metas.now ≡ [] }
+    requires known { KnownAt sig.now (with_context (types_of front.items) (typing_of sig.now scope.now)) names.old }
+    ensures read { IfOk result (λ kind. ReadsKindAfter (text_in source.now) sig.now names.old (typing_of sig.now scope.now) (types_of front.items) tree.now (types_of kind.items)) }
+    ensures refused { IfErr result (IsRefusal (RefusesKindAfter (text_in source.now) sig.now names.old (typing_of sig.now scope.now) (types_of front.items) tree.now)) }
+    ensures names { OnOk result (names.new ≡ names.old) }
+{
+    let depth = names.len();
+    let (binders, last) = tree.parts();
+    match read_kind_binders(
+        alloc,
+        source,
+        sig,
+        metas,
+        names,
+        scope,
+        front,
+        binders.as_slice(),
+    ) {
+        Err(fault) => Err(fault),
+        Ok(types) => match read_kind_last(alloc, source, sig, metas, names, scope, types, last) {
+            Err(fault) => Err(fault),
+            Ok(kind) => {
+                names.truncate(depth);
+                Ok(kind)
+            }
+        },
+    }
+}
+
+// The binders of a kind, after those before.
+fn read_kind_binders<'a>(
+    alloc: Global,
+    source: &'a Source<'a>,
+    sig: &'a Signature,
+    metas: &'a GoalList,
+    names: &mut Binders,
+    scope: &'a Scope<'a>,
+    front: Vec<Ty>,
+    items: &'a [Binder],
+) -> Result<Vec<Ty>, ElabFault>
+    requires cut { TokensOf source.now.bytes.now source.now.tokens.now }
+    requires closed { metas.now ≡ [] }
+    requires known { KnownAt sig.now (with_context (types_of front.items) (typing_of sig.now scope.now)) names.old }
+    ensures read { IfOk result (λ types. OpensKind (text_in source.now) sig.now names.old names.new (typing_of sig.now scope.now) (types_of front.items) (types_of types.items) (bindings_of items.now) []) }
+    ensures refused { IfErr result (IsRefusal (λ fault. (last : Classifier) → RefusesKindAfter (text_in source.now) sig.now names.old (typing_of sig.now scope.now) (types_of front.items) (bind (bindings_of items.now) last) fault)) }
+{
+    let mut types = front;
+    for i in 0..items.len() {
+        match read_type(
+            alloc,
+            &*source,
+            &*sig,
+            &*metas,
+            names,
+            &Scope::Under(types.as_slice(), &*scope),
+            domain(&items[i]),
+        ) {
+            Err(fault) => return Err(fault),
+            Ok(ty) => {
+                names.push(alloc, bound_name(&*source, &items[i]))?;
+                types.push(ty)?;
+            }
+        }
+    }
+    Ok(types)
+}
+
+// The last part of a kind, after these binders.
+#[cycle(read_kind)]
+fn read_kind_last<'a>(
+    alloc: Global,
+    source: &'a Source<'a>,
+    sig: &'a Signature,
+    metas: &'a GoalList,
+    names: &mut Binders,
+    scope: &'a Scope<'a>,
+    types: Vec<Ty>,
+    last: &'a Last,
+) -> Result<Vec<Ty>, ElabFault>
+    requires cut { TokensOf source.now.bytes.now source.now.tokens.now }
+    requires closed { metas.now ≡ [] }
+    requires known { KnownAt sig.now (with_context (types_of types.items) (typing_of sig.now scope.now)) names.old }
+    ensures read { IfOk result (λ kind. ReadsKindAfter (text_in source.now) sig.now names.old (typing_of sig.now scope.now) (types_of types.items) (last_of last.now) (types_of kind.items)) }
+    ensures refused { IfErr result (IsRefusal (RefusesKindAfter (text_in source.now) sig.now names.old (typing_of sig.now scope.now) (types_of types.items) (last_of last.now))) }
+    ensures names { OnOk result (names.new ≡ names.old) }
+{
+    match last {
+        Last::Fam(span, _) => Err(ElabFault::Unknown(span.start)),
+        Last::Star(_) => Ok(types),
+        Last::Group(inner) => read_kind_rest(alloc, source, sig, metas, names, scope, types, inner),
+    }
+}

@@ -1,0 +1,195 @@
+//! Reading a type, binder by binder.
+
+ghost use Rattle.std.specs.Prelude.{◌≡◌, ℕ, List, [], IfOk, IfErr, OnOk};
+ghost use Rattle.lf_definitions.specs.Typing.{with_context};
+ghost use Rattle.lex_text.specs.Tokens.{TokensOf};
+ghost use Rattle.lf_terms.specs.Types.{type_of, types_of};
+ghost use Rattle.file_trees.specs.Trees.{Classifier, bind, family};
+ghost use Rattle.file_trees.specs.TypeViews.{bindings_of, last_of};
+ghost use Rattle.elab_terms.specs.Fronts.{Opens, ReadsAfter, RefusesAfter};
+ghost use Rattle.elab_terms.specs.Knowing.{KnownAt, IsRefusal, typing_of};
+ghost use Rattle.elab_terms.specs.Sources.{text_in};
+ghost use Rattle.elab_terms.specs.Types.{ReadsType, RefusesType};
+
+use crate::binders::Binders;
+use crate::binding::{binding_place, bound_name, domain};
+use crate::elab_fault::ElabFault;
+use crate::source::Source;
+use crate::types::read_family;
+use file_trees::{Binder, Last, Span, TermTrees, TypeTree};
+use lf_kernel::scope::Scope;
+use lf_terms::{GoalList, Signature, Ty, Tys};
+use std::alloc::Global;
+
+// The most binders of a type.
+const MOST_BINDERS: usize = 1000;
+
+/// Reads a type: names are resolved, and its terms are read. The fault is the first.
+#[cycle(read_type)]
+pub fn read_type<'a>(
+    alloc: Global,
+    source: &'a Source<'a>,
+    sig: &'a Signature,
+    metas: &'a GoalList,
+    names: &mut Binders,
+    scope: &'a Scope<'a>,
+    tree: &'a TypeTree,
+) -> Result<Ty, ElabFault>
+    requires cut { TokensOf source.now.bytes.now source.now.tokens.now }
+    requires closed { metas.now ≡ [] }
+    requires known { KnownAt sig.now (typing_of sig.now scope.now) names.old }
+    ensures read { IfOk result (λ ty. ReadsType (text_in source.now) sig.now names.old (typing_of sig.now scope.now) 0 tree.now (type_of ty)) }
+    ensures refused { IfErr result (IsRefusal (RefusesType (text_in source.now) sig.now names.old (typing_of sig.now scope.now) 0 tree.now)) }
+    ensures names { OnOk result (names.new ≡ names.old) }
+{
+    let front = Vec::new(alloc);
+    match read_rest(alloc, source, sig, metas, names, scope, front, tree) {
+        Err(fault) => Err(fault),
+        Ok(ty) => Ok(ty),
+    }
+}
+
+// What comes after these binders of a type.
+#[cycle(read_type)]
+fn read_rest<'a>(
+    alloc: Global,
+    source: &'a Source<'a>,
+    sig: &'a Signature,
+    metas: &'a GoalList,
+    names: &mut Binders,
+    scope: &'a Scope<'a>,
+    front: Vec<Ty>,
+    tree: &'a TypeTree,
+) -> Result<Ty, ElabFault>
+    requires cut { TokensOf source.now.bytes.now source.now.tokens.now }
+    requires closed { metas.now ≡ [] }
+    requires known { KnownAt sig.now (with_context (types_of front.items) (typing_of sig.now scope.now)) names.old }
+    ensures read { IfOk result (λ ty. ReadsAfter (text_in source.now) sig.now names.old (typing_of sig.now scope.now) (types_of front.items) tree.now (type_of ty)) }
+    ensures refused { IfErr result (IsRefusal (RefusesAfter (text_in source.now) sig.now names.old (typing_of sig.now scope.now) (types_of front.items) tree.now)) }
+    ensures names { OnOk result (names.new ≡ names.old) }
+{
+    let depth = names.len();
+    let (binders, last) = tree.parts();
+    match read_binders(
+        alloc,
+        source,
+        sig,
+        metas,
+        names,
+        scope,
+        front,
+        binders.as_slice(),
+    ) {
+        Err(fault) => Err(fault),
+        Ok(types) => match read_last(alloc, source, sig, metas, names, scope, types, last) {
+            Err(fault) => Err(fault),
+            Ok(ty) => {
+                names.truncate(depth);
+                Ok(ty)
+            }
+        },
+    }
+}
+
+// The binders of a type, after those before.
+#[cycle(read_type)]
+fn read_binders<'a>(
+    alloc: Global,
+    source: &'a Source<'a>,
+    sig: &'a Signature,
+    metas: &'a GoalList,
+    names: &mut Binders,
+    scope: &'a Scope<'a>,
+    front: Vec<Ty>,
+    items: &'a [Binder],
+) -> Result<Vec<Ty>, ElabFault>
+    requires cut { TokensOf source.now.bytes.now source.now.tokens.now }
+    requires closed { metas.now ≡ [] }
+    requires known { KnownAt sig.now (with_context (types_of front.items) (typing_of sig.now scope.now)) names.old }
+    ensures read { IfOk result (λ types. Opens (text_in source.now) sig.now names.old names.new (typing_of sig.now scope.now) (types_of front.items) (types_of types.items) (bindings_of items.now) []) }
+    ensures refused { IfErr result (IsRefusal (λ fault. (last : Classifier) → RefusesAfter (text_in source.now) sig.now names.old (typing_of sig.now scope.now) (types_of front.items) (bind (bindings_of items.now) last) fault)) }
+{
+    let mut types = front;
+    for i in 0..items.len() {
+        if types.len() >= MOST_BINDERS {
+            return Err(ElabFault::TooMany(binding_place(&items[i])));
+        }
+        match read_type(
+            alloc,
+            &*source,
+            &*sig,
+            &*metas,
+            names,
+            &Scope::Under(types.as_slice(), &*scope),
+            domain(&items[i]),
+        ) {
+            Err(fault) => return Err(fault),
+            Ok(ty) => {
+                names.push(alloc, bound_name(&*source, &items[i]))?;
+                types.push(ty)?;
+            }
+        }
+    }
+    Ok(types)
+}
+
+// The last part of a type, after these binders.
+#[cycle(read_type)]
+fn read_last<'a>(
+    alloc: Global,
+    source: &'a Source<'a>,
+    sig: &'a Signature,
+    metas: &'a GoalList,
+    names: &mut Binders,
+    scope: &'a Scope<'a>,
+    types: Vec<Ty>,
+    last: &'a Last,
+) -> Result<Ty, ElabFault>
+    requires cut { TokensOf source.now.bytes.now source.now.tokens.now }
+    requires closed { metas.now ≡ [] }
+    requires known { KnownAt sig.now (with_context (types_of types.items) (typing_of sig.now scope.now)) names.old }
+    ensures read { IfOk result (λ ty. ReadsAfter (text_in source.now) sig.now names.old (typing_of sig.now scope.now) (types_of types.items) (last_of last.now) (type_of ty)) }
+    ensures refused { IfErr result (IsRefusal (RefusesAfter (text_in source.now) sig.now names.old (typing_of sig.now scope.now) (types_of types.items) (last_of last.now))) }
+    ensures names { OnOk result (names.new ≡ names.old) }
+{
+    match last {
+        Last::Fam(span, arguments) => read_atom(
+            alloc, source, sig, metas, names, scope, types, *span, arguments,
+        ),
+        Last::Star(span) => Err(ElabFault::Unknown(span.start)),
+        Last::Group(inner) => read_rest(alloc, source, sig, metas, names, scope, types, inner),
+    }
+}
+
+// A family with its arguments, after these binders.
+fn read_atom<'a>(
+    alloc: Global,
+    source: &'a Source<'a>,
+    sig: &'a Signature,
+    metas: &'a GoalList,
+    names: &mut Binders,
+    scope: &'a Scope<'a>,
+    types: Vec<Ty>,
+    span: Span,
+    arguments: &'a TermTrees,
+) -> Result<Ty, ElabFault>
+    requires cut { TokensOf source.now.bytes.now source.now.tokens.now }
+    requires closed { metas.now ≡ [] }
+    requires known { KnownAt sig.now (with_context (types_of types.items) (typing_of sig.now scope.now)) names.old }
+    ensures read { IfOk result (λ ty. ReadsAfter (text_in source.now) sig.now names.old (typing_of sig.now scope.now) (types_of types.items) (family span arguments.now) (type_of ty)) }
+    ensures refused { IfErr result (IsRefusal (RefusesAfter (text_in source.now) sig.now names.old (typing_of sig.now scope.now) (types_of types.items) (family span arguments.now))) }
+    ensures names { OnOk result (names.new ≡ names.old) }
+{
+    let inside = Scope::Under(types.as_slice(), scope);
+    match read_family(alloc, source, sig, metas, names, &inside, span, arguments) {
+        Err(fault) => Err(fault),
+        Ok(atom) => {
+            let binders = Tys::from_vec(alloc, types)?;
+            Ok(Ty {
+                binders,
+                family: atom.family,
+                args: atom.args,
+            })
+        }
+    }
+}

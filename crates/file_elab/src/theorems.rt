@@ -1,0 +1,71 @@
+//! Declarations of theorems.
+
+ghost use Rattle.std.specs.Prelude.{◌≡◌, ℕ, List, map, IfOk, IfErr, OnOk};
+ghost use Rattle.lex_text.specs.Tokens.{TokensOf};
+ghost use Rattle.elab_terms.specs.Knowing.{IsRefusal};
+ghost use Rattle.elab_terms.specs.Names.{text_at};
+ghost use Rattle.elab_terms.specs.Sources.{text_in};
+ghost use Rattle.file_elab.specs.Programming.{DeclaresTheorem, RefusesTheorem};
+ghost use Rattle.file_elab.specs.Programs.{MayBeNamed, RefusesName, most_theorems};
+ghost use Rattle.file_elab.specs.Theorems.{AreFormed};
+ghost use Rattle.file_trees.specs.declared.decl_tree.DeclTree.TheVariants as declarations;
+
+use crate::theorem::{Theorem, TheoremList};
+use elab_terms::ElabFault;
+use elab_terms::closed::closed_type;
+use elab_terms::source::{Source, text};
+use file_trees::{Span, TypeTree};
+use lf_terms::{Name, Signature};
+use std::alloc::Global;
+
+// The most theorems.
+const MOST_THEOREMS: usize = 10_000;
+
+// The name of a theorem that is declared.
+fn theorem_name(
+    alloc: Global,
+    source: &Source<'_>,
+    theorems: &TheoremList,
+    name: Span,
+) -> Result<Name, ElabFault>
+    ensures name { IfOk result (λ word. word ≡ text_at (text_in source.now) name) }
+    ensures new { IfOk result (λ _. MayBeNamed (map (λ theorem. theorem.name) theorems.now) most_theorems (text_at (text_in source.now) name)) }
+    ensures refused { IfErr result (IsRefusal (RefusesName (map (λ theorem. theorem.name) theorems.now) most_theorems (text_in source.now) name)) }
+{
+    let word = Name::from_slice(alloc, text(source, name))?;
+    if let Some(_) = theorems.find(word.as_bytes()) {
+        return Err(ElabFault::Taken(name.start));
+    }
+    if theorems.len() >= MOST_THEOREMS {
+        return Err(ElabFault::TooMany(name.start));
+    }
+    Ok(word)
+}
+
+/// Declares a theorem with its type, which is well formed, or answers why not.
+pub fn declare_theorem(
+    alloc: Global,
+    source: &Source<'_>,
+    sig: &Signature,
+    theorems: &mut TheoremList,
+    name: Span,
+    tree: &TypeTree,
+) -> Result<(), ElabFault>
+    requires { TokensOf source.now.bytes.now source.now.tokens.now }
+    ensures declared { IfOk result (λ _. DeclaresTheorem (text_in source.now) sig.now theorems.old (declarations.Theorem name tree.now) theorems.new) }
+    ensures formed { OnOk result (AreFormed sig.now theorems.old → AreFormed sig.now theorems.new) }
+    ensures refused { IfErr result (IsRefusal (RefusesTheorem (text_in source.now) sig.now theorems.old (declarations.Theorem name tree.now))) }
+{
+    match theorem_name(alloc, source, &*theorems, name) {
+        Err(fault) => Err(fault),
+        Ok(word) => match closed_type(alloc, source, sig, tree) {
+            Err(fault) => Err(fault),
+            Ok(ty) => {
+                let Ok(_) = theorems.push(alloc, Theorem { name: word, ty }) else {
+                    return Err(ElabFault::NoMemory);
+                };
+                Ok(())
+            }
+        },
+    }
+}
