@@ -4,8 +4,8 @@ use Rattle.std.specs.Io.KnownBytes.{Appends}
 use Rattle.std.proofs.KnownBytes.{Appends-nil, Appends-trans}
 use Rattle.std.proofs.lemmas.List.{take_more, take-append-drop}
 use Rattle.run_io.specs.Moves.{AppendsFront}
-use Rattle.small_files.specs.declared.small.SmallFile.{SmallFile}
-use Rattle.small_files.specs.declared.small.SmallTheorem.{SmallTheorem}
+use Rattle.small_programs.specs.declared.small.SmallProgram.{SmallProgram}
+use Rattle.small_programs.specs.declared.small.SmallTheorem.{SmallTheorem}
 use Rattle.aesop_session.specs.declared.status.Status.{Status}
 use Rattle.aesop_session.specs.declared.status.Status.TheVariants.{AllProved, SomeStuck}
 use Rattle.small_search.specs.declared.closing.Closing.{Closing}
@@ -29,34 +29,34 @@ AppendsFront-after held middle after done text a f =
 
 -- ---- blocks that are left to write
 
-block_at : (file : SmallFile) (table : Closings) (theorem : SmallTheorem) → IsTable file table → (found : Option Closing) → closing_of table.by_family theorem.family ≡ found → (verdict : Verdict) × (text : List ℕ) × IsBlock file theorem verdict text
-block_at file table theorem is_table (Some closing) found =
-    let given = GivesTerm-closed file table.by_family table.order is_table.closings theorem.family closing found in
-    let block = proved_block file theorem table.by_family given.0 given.1 given.2 in
+block_at : (program : SmallProgram) (table : Closings) (theorem : SmallTheorem) → IsTable program table → (found : Option Closing) → closing_of table.by_family theorem.family ≡ found → (verdict : Verdict) × (text : List ℕ) × IsBlock program theorem verdict text
+block_at program table theorem is_table (Some closing) found =
+    let given = GivesTerm-closed program table.by_family table.order is_table.closings theorem.family closing found in
+    let block = proved_block program theorem table.by_family given.0 given.1 given.2 in
     (proved, block.0, block.1)
-block_at file table theorem is_table None found = (stuck, stuck_text theorem.name, stuck_block file theorem table is_table found)
+block_at program table theorem is_table None found = (stuck, stuck_text theorem.name, stuck_block program theorem table is_table found)
 
 -- each theorem has a right block
-pub right_block : (file : SmallFile) (table : Closings) (theorem : SmallTheorem) → IsTable file table → (verdict : Verdict) × (text : List ℕ) × IsBlock file theorem verdict text
-right_block file table theorem is_table = block_at file table theorem is_table (closing_of table.by_family theorem.family) refl
+pub right_block : (program : SmallProgram) (table : Closings) (theorem : SmallTheorem) → IsTable program table → (verdict : Verdict) × (text : List ℕ) × IsBlock program theorem verdict text
+right_block program table theorem is_table = block_at program table theorem is_table (closing_of table.by_family theorem.family) refl
 
 -- theorems have right blocks
-pub right_blocks : (file : SmallFile) (table : Closings) (theorems : List SmallTheorem) → IsTable file table → (verdicts : List Verdict) × (blocks : List ℕ) × AreBlocks file theorems verdicts blocks
-right_blocks file table [] is_table = ([], [], nothing)
-right_blocks file table (theorem ∷ theorems) is_table =
-    let block = right_block file table theorem is_table in
-    let blocks = right_blocks file table theorems is_table in
+pub right_blocks : (program : SmallProgram) (table : Closings) (theorems : List SmallTheorem) → IsTable program table → (verdicts : List Verdict) × (blocks : List ℕ) × AreBlocks program theorems verdicts blocks
+right_blocks program table [] is_table = ([], [], nothing)
+right_blocks program table (theorem ∷ theorems) is_table =
+    let block = right_block program table theorem is_table in
+    let blocks = right_blocks program table theorems is_table in
     (block.0 ∷ blocks.0, block.1 ++ blocks.1, next theorem theorems block.0 blocks.0 block.1 blocks.1 (block.1 ++ blocks.1) block.2 blocks.2 refl)
 
 -- right blocks one after another are right blocks
-pub AreBlocks-append : (file : SmallFile) (ts us : List SmallTheorem) (vs ws : List Verdict) (a b : List ℕ) → AreBlocks file ts vs a → AreBlocks file us ws b → AreBlocks file (ts ++ us) (vs ++ ws) (a ++ b)
-AreBlocks-append file ts us vs ws a b nothing more = more
-AreBlocks-append file ts us vs ws a b (next t ts' v vs' block blocks _ is rest parts) more =
-    next t (ts' ++ us) v (vs' ++ ws) block (blocks ++ b) (a ++ b) is (AreBlocks-append file ts' us vs' ws blocks b rest more)
+pub AreBlocks-append : (program : SmallProgram) (ts us : List SmallTheorem) (vs ws : List Verdict) (a b : List ℕ) → AreBlocks program ts vs a → AreBlocks program us ws b → AreBlocks program (ts ++ us) (vs ++ ws) (a ++ b)
+AreBlocks-append program ts us vs ws a b nothing more = more
+AreBlocks-append program ts us vs ws a b (next t ts' v vs' block blocks _ is rest parts) more =
+    next t (ts' ++ us) v (vs' ++ ws) block (blocks ++ b) (a ++ b) is (AreBlocks-append program ts' us vs' ws blocks b rest more)
     (ap (λ (x : List ℕ). x ++ b) parts ∙ append_assoc block blocks b)
 
-pub AreBlocks-one : (file : SmallFile) (t : SmallTheorem) (v : Verdict) (text : List ℕ) → IsBlock file t v text → AreBlocks file (t ∷ []) (v ∷ []) text
-AreBlocks-one file t v text is = next t [] v [] text [] text is nothing (sym (append-nil text))
+pub AreBlocks-one : (program : SmallProgram) (t : SmallTheorem) (v : Verdict) (text : List ℕ) → IsBlock program t v text → AreBlocks program (t ∷ []) (v ∷ []) text
+AreBlocks-one program t v text is = next t [] v [] text [] text is nothing (sym (append-nil text))
 
 -- the status after one more verdict
 pub status_of-push : (vs : List Verdict) (is_proved : Bool) → cond is_proved (status_of vs) SomeStuck ≡ status_of (vs ++ verdict_of is_proved ∷ [])
@@ -68,31 +68,31 @@ status_of-push (stuck ∷ vs) false = refl
 
 -- ---- the loop over the theorems
 
-pub WritesBlocks-nothing : (file : SmallFile) (held : Option (List ℕ)) → WritesBlocks file [] held held AllProved
-WritesBlocks-nothing file held = record { verdicts = []; blocks = []; are_blocks = nothing; status_is = refl; taken = Appends-nil held }
+pub WritesBlocks-nothing : (program : SmallProgram) (held : Option (List ℕ)) → WritesBlocks program [] held held AllProved
+WritesBlocks-nothing program held = record { verdicts = []; blocks = []; are_blocks = nothing; status_is = refl; taken = Appends-nil held }
 
 -- one more block
-pub WritesBlocks-push : (file : SmallFile) (ts : List SmallTheorem) (t : SmallTheorem) (held middle after : Option (List ℕ)) (status more : Status) (is_proved : Bool) →
-    WritesBlocks file ts held middle status → WritesBlock file t middle after is_proved → more ≡ cond is_proved status SomeStuck → WritesBlocks file (ts ++ t ∷ []) held after more
-WritesBlocks-push file ts t held middle after status more is_proved w b is = record {
+pub WritesBlocks-push : (program : SmallProgram) (ts : List SmallTheorem) (t : SmallTheorem) (held middle after : Option (List ℕ)) (status more : Status) (is_proved : Bool) →
+    WritesBlocks program ts held middle status → WritesBlock program t middle after is_proved → more ≡ cond is_proved status SomeStuck → WritesBlocks program (ts ++ t ∷ []) held after more
+WritesBlocks-push program ts t held middle after status more is_proved w b is = record {
   verdicts = w.verdicts ++ verdict_of is_proved ∷ [];
   blocks = w.blocks ++ b.0;
-  are_blocks = AreBlocks-append file ts (t ∷ []) w.verdicts (verdict_of is_proved ∷ []) w.blocks b.0 w.are_blocks (AreBlocks-one file t (verdict_of is_proved) b.0 b.1);
+  are_blocks = AreBlocks-append program ts (t ∷ []) w.verdicts (verdict_of is_proved ∷ []) w.blocks b.0 w.are_blocks (AreBlocks-one program t (verdict_of is_proved) b.0 b.1);
   status_is = is ∙ ap (λ s. cond is_proved s SomeStuck) w.status_is ∙ status_of-push w.verdicts is_proved;
   taken = Appends-trans held middle after w.blocks b.0 w.taken b.2;
 }
 
 -- a front of one more block is a front of all of them
-pub WritesBlocksFront-at : (file : SmallFile) (table : Closings) (ts us all : List SmallTheorem) (t : SmallTheorem) (held middle after : Option (List ℕ)) (status : Status) →
-    IsTable file table → (ts ++ t ∷ []) ++ us ≡ all →
-    WritesBlocks file ts held middle status → WritesBlockFront file t middle after → WritesBlocksFront file all held after
-WritesBlocksFront-at file table ts us all t held middle after status is_table parts w f =
-    let rest = right_blocks file table us is_table in
-    let so_far = AreBlocks-append file ts (t ∷ []) w.verdicts (f.0 ∷ []) w.blocks f.1 w.are_blocks (AreBlocks-one file t f.0 f.1 f.2) in (
+pub WritesBlocksFront-at : (program : SmallProgram) (table : Closings) (ts us all : List SmallTheorem) (t : SmallTheorem) (held middle after : Option (List ℕ)) (status : Status) →
+    IsTable program table → (ts ++ t ∷ []) ++ us ≡ all →
+    WritesBlocks program ts held middle status → WritesBlockFront program t middle after → WritesBlocksFront program all held after
+WritesBlocksFront-at program table ts us all t held middle after status is_table parts w f =
+    let rest = right_blocks program table us is_table in
+    let so_far = AreBlocks-append program ts (t ∷ []) w.verdicts (f.0 ∷ []) w.blocks f.1 w.are_blocks (AreBlocks-one program t f.0 f.1 f.2) in (
       (w.verdicts ++ f.0 ∷ []) ++ rest.0,
       (w.blocks ++ f.1) ++ rest.1,
-      subst (λ theorems. AreBlocks file theorems ((w.verdicts ++ f.0 ∷ []) ++ rest.0) ((w.blocks ++ f.1) ++ rest.1)) parts
-          (AreBlocks-append file (ts ++ t ∷ []) us (w.verdicts ++ f.0 ∷ []) rest.0 (w.blocks ++ f.1) rest.1 so_far rest.2),
+      subst (λ theorems. AreBlocks program theorems ((w.verdicts ++ f.0 ∷ []) ++ rest.0) ((w.blocks ++ f.1) ++ rest.1)) parts
+          (AreBlocks-append program (ts ++ t ∷ []) us (w.verdicts ++ f.0 ∷ []) rest.0 (w.blocks ++ f.1) rest.1 so_far rest.2),
       AppendsFront-more held after (w.blocks ++ f.1) rest.1 (AppendsFront-after held middle after w.blocks f.1 w.taken f.3),
     )
 
@@ -108,36 +108,36 @@ take_next xs i x within is = ap (λ y. take i xs ++ y ∷ []) is ∙ sym (take_m
 
 -- ---- whole documents
 
-pub WritesDocument-whole : (file : SmallFile) (held first middle after : Option (List ℕ)) (status : Status) →
-    Appends held first first_line → WritesBlocks file file.theorems first middle status → Appends middle after last_line → WritesDocument file held after status
-WritesDocument-whole file held first middle after status a w z = (
+pub WritesDocument-whole : (program : SmallProgram) (held first middle after : Option (List ℕ)) (status : Status) →
+    Appends held first first_line → WritesBlocks program program.theorems first middle status → Appends middle after last_line → WritesDocument program held after status
+WritesDocument-whole program held first middle after status a w z = (
   (first_line ++ w.blocks) ++ last_line,
   record { verdicts = w.verdicts; blocks = w.blocks; are_blocks = w.are_blocks; text_is = refl; status_is = w.status_is },
   Appends-trans held middle after (first_line ++ w.blocks) last_line (Appends-trans held first middle first_line w.blocks a w.taken) z,
 )
 
-pub WritesDocumentFront-first : (file : SmallFile) (table : Closings) (held after : Option (List ℕ)) → IsTable file table →
-    AppendsFront held after first_line → WritesDocumentFront file held after
-WritesDocumentFront-first file table held after is_table f =
-    let blocks = right_blocks file table file.theorems is_table in (
+pub WritesDocumentFront-first : (program : SmallProgram) (table : Closings) (held after : Option (List ℕ)) → IsTable program table →
+    AppendsFront held after first_line → WritesDocumentFront program held after
+WritesDocumentFront-first program table held after is_table f =
+    let blocks = right_blocks program table program.theorems is_table in (
       status_of blocks.0,
       (first_line ++ blocks.1) ++ last_line,
       record { verdicts = blocks.0; blocks = blocks.1; are_blocks = blocks.2; text_is = refl; status_is = refl },
       AppendsFront-more held after (first_line ++ blocks.1) last_line (AppendsFront-more held after first_line blocks.1 f),
     )
 
-pub WritesDocumentFront-blocks : (file : SmallFile) (held first after : Option (List ℕ)) →
-    Appends held first first_line → WritesBlocksFront file file.theorems first after → WritesDocumentFront file held after
-WritesDocumentFront-blocks file held first after a f = (
+pub WritesDocumentFront-blocks : (program : SmallProgram) (held first after : Option (List ℕ)) →
+    Appends held first first_line → WritesBlocksFront program program.theorems first after → WritesDocumentFront program held after
+WritesDocumentFront-blocks program held first after a f = (
   status_of f.0,
   (first_line ++ f.1) ++ last_line,
   record { verdicts = f.0; blocks = f.1; are_blocks = f.2; text_is = refl; status_is = refl },
   AppendsFront-more held after (first_line ++ f.1) last_line (AppendsFront-after held first after first_line f.1 a f.3),
 )
 
-pub WritesDocumentFront-last : (file : SmallFile) (held first middle after : Option (List ℕ)) (status : Status) →
-    Appends held first first_line → WritesBlocks file file.theorems first middle status → AppendsFront middle after last_line → WritesDocumentFront file held after
-WritesDocumentFront-last file held first middle after status a w z = (
+pub WritesDocumentFront-last : (program : SmallProgram) (held first middle after : Option (List ℕ)) (status : Status) →
+    Appends held first first_line → WritesBlocks program program.theorems first middle status → AppendsFront middle after last_line → WritesDocumentFront program held after
+WritesDocumentFront-last program held first middle after status a w z = (
   status,
   (first_line ++ w.blocks) ++ last_line,
   record { verdicts = w.verdicts; blocks = w.blocks; are_blocks = w.are_blocks; text_is = refl; status_is = w.status_is },

@@ -1,3 +1,5 @@
 pub mod Blocks
 pub mod Completion
 pub mod Answering
+pub mod Exclusions
+pub mod ForcedStatuses

@@ -1,45 +1,48 @@
 -- What the top call answers: each status, with what was read and written.
-use Rattle.std.specs.Prelude.{◌≡◌, ℕ, ◌≤◌, ◌⊎◌, length, List, codes, Option}
+use Rattle.std.specs.Prelude.{◌≡◌, ℕ, ◌<◌, ◌≤◌, ◌⊎◌, length, List, codes, Option}
 use Rattle.std.specs.Io.KnownBytes.{Keeps, Appends}
 use Rattle.run_io.specs.Moves.{TakesAll, TakesAtMost, TakesMoreThan, AppendsFront}
-use Rattle.small_files.specs.declared.small.SmallFile.{SmallFile}
-use Rattle.small_files.specs.SmallFiles.{IsSmallFile, IsNoSmallFile}
+use Rattle.file_elab.specs.Programs.{LfProgram}
+use Rattle.small_forms.specs.Smallness.{IsSmall, small_form}
+use Rattle.aesop_session.specs.declared.refusal.RefusalKind.{RefusalKind}
 use Rattle.aesop_session.specs.declared.status.Status.{Status}
-use Rattle.aesop_session.specs.declared.status.Status.TheVariants.{AllProved, SomeStuck, FileRefused, Usage, ReadFault, WriteFault, NoMemory}
+use Rattle.aesop_session.specs.declared.status.Status.TheVariants.{AllProved, SomeStuck, FileRefused, Usage, TooLong, ReadFault, WriteFault, NoMemory}
 use Rattle.aesop_session.specs.Commands.{IsProve}
 use Rattle.small_answers.specs.Texts.{line}
 use Rattle.aesop_session.specs.Documents.{IsDocument}
+use Rattle.aesop_session.specs.Refusals.{IsAccepted, RefusesText, IsRefusedAs}
 
 abbrev pub usage_line : List ℕ
 usage_line = line (codes "usage: aesop prove [--workers N] [--budget N] [--trace] | check | gen N | big N")
 
-abbrev pub unsupported_line : List ℕ
-unsupported_line = line (codes "refused at 0: unsupported")
+abbrev pub too_long_line : List ℕ
+too_long_line = line (codes "refused: input too long")
 
 -- the most bytes that are read
 abbrev pub most_bytes : ℕ
 most_bytes = 4194304
 
--- What was read is a small file, and this one.
-abbrev pub TakesFile : (left later : Option (List ℕ)) → SmallFile → Type 0
-TakesFile left later file = (input : List ℕ) × TakesAll left later input × (length input ≤ most_bytes) × IsSmallFile input file
+-- What was read is accepted, and its program is this small one.
+abbrev pub TakesProgram : (left later : Option (List ℕ)) → LfProgram → Type 0
+TakesProgram left later program = (input : List ℕ) × TakesAll left later input × (length input ≤ most_bytes) × IsAccepted input program × IsSmall program
 
--- What was read is a small file, and the text is a right document for it.
+-- What was read is accepted with a small program, and the text is a right document for it.
 pub record AnswersFile (left later : Option (List ℕ)) (status : Status) (text : List ℕ) : Type 0 where
-  pub file : SmallFile
-  pub taken : TakesFile left later file
-  pub document : IsDocument file status text
+  pub program : LfProgram
+  pub taken : TakesProgram left later program
+  pub document : IsDocument (small_form program) status text
 
--- What was read is no small file, or more than the limit.
-abbrev pub RefusesFile : Option (List ℕ) → Option (List ℕ) → Type 0
-RefusesFile left later = ((input : List ℕ) × TakesAll left later input × IsNoSmallFile input) ⊎ TakesMoreThan most_bytes left later
+-- What was read is refused, and the text is the line that says so.
+abbrev pub RefusesFile : (left later : Option (List ℕ)) → (text : List ℕ) → Type 0
+RefusesFile left later text = (input : List ℕ) × TakesAll left later input × (length input ≤ most_bytes) × IsRefusedAs input text
 
 -- The text is the whole answer of this status to the words, where the source had the one left before and has
 -- the other left after.
 abbrev pub IsAnswer : List (List ℕ) → Option (List ℕ) → Option (List ℕ) → Status → List ℕ → Type 0
 IsAnswer words left later AllProved text = IsProve words × AnswersFile left later AllProved text
 IsAnswer words left later SomeStuck text = IsProve words × AnswersFile left later SomeStuck text
-IsAnswer words left later FileRefused text = IsProve words × RefusesFile left later × (text ≡ unsupported_line)
+IsAnswer words left later FileRefused text = IsProve words × RefusesFile left later text
+IsAnswer words left later TooLong text = IsProve words × TakesMoreThan most_bytes left later × (text ≡ too_long_line)
 IsAnswer words left later Usage text = (IsProve words → ⊥) × Keeps left later × (text ≡ usage_line)
 IsAnswer words left later _ text = ⊥
 
@@ -60,3 +63,24 @@ Served AllProved = Unit {0}
 Served SomeStuck = Unit {0}
 Served NoMemory = Unit {0}
 Served _ = ⊥
+
+-- The file was refused, or memory ran out.
+abbrev pub Refused : Status → Type 0
+Refused FileRefused = Unit {0}
+Refused NoMemory = Unit {0}
+Refused _ = ⊥
+
+-- The input was too long, or memory ran out.
+abbrev pub Overlong : Status → Type 0
+Overlong TooLong = Unit {0}
+Overlong NoMemory = Unit {0}
+Overlong _ = ⊥
+
+-- The status that the input must have where nothing fails.
+pub record IsStatusFor (input : List ℕ) (status : Status) : Type 0 where
+  -- a small program is answered
+  pub small : (program : LfProgram) → length input ≤ most_bytes → IsAccepted input program → IsSmall program → Served status
+  -- what is refused is said to be so
+  pub refused : (place : ℕ) (kind : RefusalKind) → length input ≤ most_bytes → RefusesText input place kind → Refused status
+  -- and so is what is too long
+  pub overlong : most_bytes < length input → Overlong status

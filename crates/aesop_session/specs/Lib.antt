@@ -1,5 +1,7 @@
 pub mod Statuses
 pub mod Commands
 pub mod Documents
+pub mod Refusals
 pub mod Answers
+pub mod Serving
 pub mod Verdicts

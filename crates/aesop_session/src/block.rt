@@ -7,7 +7,7 @@ ghost use Rattle.aesop_session.specs.Documents.{stuck_text, AddsBlock, AddsProve
 
 use lf_terms::{Bytes, Ids, NoMemory};
 use small_answers::{Proofs, append_numbers, append_script, append_term};
-use small_files::{SmallFile, SmallTheorem};
+use small_programs::{SmallProgram, SmallTheorem};
 use small_search::Table;
 use std::alloc::Global;
 
@@ -22,12 +22,12 @@ const WORDS: u64 = 22;
 pub(crate) fn append_block(
     alloc: Global,
     out: &mut Bytes,
-    file: &SmallFile,
+    program: &SmallProgram,
     proofs: &Proofs,
     theorem: &SmallTheorem,
 ) -> Result<bool, NoMemory>
-    requires { IsProofs file.now proofs.now }
-    ensures { IfOk result (AddsBlock file.now theorem.now out.old out.new) }
+    requires { IsProofs program.now proofs.now }
+    ensures { IfOk result (AddsBlock program.now theorem.now out.old out.new) }
 {
     match proofs.table.closing(theorem.family) {
         Some(closing) => {
@@ -35,7 +35,7 @@ pub(crate) fn append_block(
             if is_too_long(theorem.name.as_bytes(), length.term, length.script) {
                 return Err(NoMemory);
             }
-            append_proved(alloc, out, file, &proofs.table, theorem)?;
+            append_proved(alloc, out, program, &proofs.table, theorem)?;
             Ok(true)
         }
         None => {
@@ -57,22 +57,22 @@ fn is_too_long(name: &[u8], term: u32, script: u32) -> bool
 fn append_proved(
     alloc: Global,
     out: &mut Bytes,
-    file: &SmallFile,
+    program: &SmallProgram,
     table: &Table,
     theorem: &SmallTheorem,
 ) -> Result<(), NoMemory>
-    requires table { IsTable file.now table.now }
+    requires table { IsTable program.now table.now }
     requires closed { IsSome (closing_of table.now.by_family theorem.now.family) }
-    ensures { OnOk result (AddsProvedBlock file.now theorem.now out.old out.new) }
+    ensures { OnOk result (AddsProvedBlock program.now theorem.now out.old out.new) }
 {
     let mut numbers = Ids::new(alloc);
-    append_numbers(&mut numbers, file, table, theorem.family)?;
+    append_numbers(&mut numbers, program, table, theorem.family)?;
     out.append(b"theorem ")?;
     out.append(theorem.name.as_bytes())?;
     out.append(b" proved\nterm ")?;
-    append_term(out, file, table, theorem.family)?;
+    append_term(out, program, table, theorem.family)?;
     out.append(b"\n")?;
-    append_script(out, file, numbers.as_slice())?;
+    append_script(out, program, numbers.as_slice())?;
     Ok(())
 }
 

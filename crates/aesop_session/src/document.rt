@@ -1,4 +1,4 @@
-//! Writing the answers to a file.
+//! Writing the answers for a program.
 
 ghost use Rattle.std.specs.Prelude.{◌≡◌, ◌≤◌, ◌⊎◌, IfOk, OnOk, OnErr, IsErrOf, if◌then◌else◌};
 ghost use Rattle.std.specs.Io.KnownBytes.{Appends};
@@ -12,7 +12,7 @@ use crate::status::Status;
 use lf_terms::{Bytes, NoMemory};
 use run_io::{Sink, WriteEnd, write_piece};
 use small_answers::Proofs;
-use small_files::{SmallFile, SmallTheorem};
+use small_programs::{SmallProgram, SmallTheorem};
 use std::alloc::Global;
 
 /// Why a text was not written whole.
@@ -55,21 +55,21 @@ pub(crate) fn write_text<K: Sink>(sink: &mut K, bytes: &[u8]) -> Result<(), Stop
 fn answer_theorem<K: Sink>(
     alloc: Global,
     block: &mut Bytes,
-    file: &SmallFile,
+    program: &SmallProgram,
     proofs: &Proofs,
     theorem: &SmallTheorem,
     sink: &mut K,
 ) -> Result<bool, Stop>
-    requires { IsProofs file.now proofs.now }
-    ensures ok { IfOk result (WritesBlock file.now theorem.now (K.held sink.old) (K.held sink.new)) }
-    ensures err { OnErr result (WritesBlockFront file.now theorem.now (K.held sink.old) (K.held sink.new)) }
+    requires { IsProofs program.now proofs.now }
+    ensures ok { IfOk result (WritesBlock program.now theorem.now (K.held sink.old) (K.held sink.new)) }
+    ensures err { OnErr result (WritesBlockFront program.now theorem.now (K.held sink.old) (K.held sink.new)) }
     ensures cause { IsErrOf result Stop.Write →
         Rose (K.faults sink.old) (K.faults sink.new) ⊎ Rose (K.zeros sink.old) (K.zeros sink.new) }
     ensures faults_later { K.faults sink.old ≤ K.faults sink.new }
     ensures zeros_later { K.zeros sink.old ≤ K.zeros sink.new }
 {
     block.clear();
-    let is_proved = match append_block(alloc, block, file, proofs, theorem) {
+    let is_proved = match append_block(alloc, block, program, proofs, theorem) {
         Ok(is_proved) => is_proved,
         Err(_) => return Err(Stop::NoMemory),
     };
@@ -82,13 +82,13 @@ fn answer_theorem<K: Sink>(
 /// Answers all theorems in order. The status says whether one of them is stuck.
 fn write_blocks<K: Sink>(
     alloc: Global,
-    file: &SmallFile,
+    program: &SmallProgram,
     proofs: &Proofs,
     sink: &mut K,
 ) -> Result<Status, Stop>
-    requires { IsProofs file.now proofs.now }
-    ensures ok { IfOk result (WritesBlocks file.now file.now.theorems (K.held sink.old) (K.held sink.new)) }
-    ensures err { OnErr result (WritesBlocksFront file.now file.now.theorems (K.held sink.old) (K.held sink.new)) }
+    requires { IsProofs program.now proofs.now }
+    ensures ok { IfOk result (WritesBlocks program.now program.now.theorems (K.held sink.old) (K.held sink.new)) }
+    ensures err { OnErr result (WritesBlocksFront program.now program.now.theorems (K.held sink.old) (K.held sink.new)) }
     ensures cause { IsErrOf result Stop.Write →
         Rose (K.faults sink.old) (K.faults sink.new) ⊎ Rose (K.zeros sink.old) (K.zeros sink.new) }
     ensures faults_later { K.faults sink.old ≤ K.faults sink.new }
@@ -96,8 +96,8 @@ fn write_blocks<K: Sink>(
 {
     let mut block = Bytes::new(alloc);
     let mut status = Status::AllProved;
-    for theorem in file.theorems.as_slice() {
-        match answer_theorem(alloc, &mut block, file, proofs, theorem, sink) {
+    for theorem in program.theorems.as_slice() {
+        match answer_theorem(alloc, &mut block, program, proofs, theorem, sink) {
             Ok(is_proved) => status = status_after(status, is_proved),
             Err(stop) => return Err(stop),
         }
@@ -112,17 +112,17 @@ fn status_after(status: Status, is_proved: bool) -> Status
     if is_proved { status } else { Status::SomeStuck }
 }
 
-/// Writes the answers to a file: the first line, a block for each theorem in order, and the last
+/// Writes the answers for a program: the first line, a block for each theorem in order, and the last
 /// line, each as one piece.
 pub(crate) fn write_document<K: Sink>(
     alloc: Global,
-    file: &SmallFile,
+    program: &SmallProgram,
     proofs: &Proofs,
     sink: &mut K,
 ) -> Result<Status, Stop>
-    requires { IsProofs file.now proofs.now }
-    ensures ok { IfOk result (WritesDocument file.now (K.held sink.old) (K.held sink.new)) }
-    ensures err { OnErr result (WritesDocumentFront file.now (K.held sink.old) (K.held sink.new)) }
+    requires { IsProofs program.now proofs.now }
+    ensures ok { IfOk result (WritesDocument program.now (K.held sink.old) (K.held sink.new)) }
+    ensures err { OnErr result (WritesDocumentFront program.now (K.held sink.old) (K.held sink.new)) }
     ensures cause { IsErrOf result Stop.Write →
         Rose (K.faults sink.old) (K.faults sink.new) ⊎ Rose (K.zeros sink.old) (K.zeros sink.new) }
     ensures faults_later { K.faults sink.old ≤ K.faults sink.new }
@@ -131,7 +131,7 @@ pub(crate) fn write_document<K: Sink>(
     if let Err(stop) = write_text(sink, b"aesop 1 budget 1000\n") {
         return Err(stop);
     }
-    let status = match write_blocks(alloc, file, proofs, sink) {
+    let status = match write_blocks(alloc, program, proofs, sink) {
         Ok(status) => status,
         Err(stop) => return Err(stop),
     };

@@ -12,11 +12,11 @@ pub enum Status {
     SomeStuck,
     /// A block is spent.
     SomeSpent,
-    /// The input is no file that is accepted.
+    /// The input is refused: it is no file, or its program is not one that is served.
     FileRefused,
     /// The words are no command line.
     Usage,
-    /// The input is longer than the limit.
+    /// More bytes than the limit were read.
     TooLong,
     /// The source failed.
     ReadFault,

@@ -1,10 +1,10 @@
 //! Worked rows, over sources and sinks in memory.
 
+use crate::accepting::small_of;
 use crate::{SmallVerdict, prove_small, run_still};
 use lf_terms::same::same;
 use lf_terms::{Bytes, Head, Ids, Name, NoMemory, Term, Terms, Words};
 use run_io::{MemorySink, MemorySource, SureSink, SureSource};
-use small_files::small_file;
 use std::alloc::Global;
 use std::test::Fail;
 
@@ -30,18 +30,36 @@ family rule : type. const unsafe : rule. rule apply : unsafe 1 apply unsafe. the
 family p : type. family q : type. family r : type. const f : q -> p. const g : r -> p. const c : r. rule f : unsafe 80 apply f. rule g : unsafe 20 apply g. rule c : unsafe 100 apply c. theorem t : p. => 0 => aesop 1 budget 1000 / theorem t proved / term g c / step unsafe g / step unsafe c / end
 family p : type. const l : p -> p. rule l : unsafe 100 apply l. theorem t : p. => 1 => aesop 1 budget 1000 / theorem t stuck / end
 family a : type. family b : type. family c : type. const z : a. const s : a -> a -> b. const k : b -> a -> b -> c. rule z1 : unsafe 1 apply z. rule s1 : unsafe 1 apply s. rule k1 : unsafe 1 apply k. theorem t : c. theorem u : b. => 0 => aesop 1 budget 1000 / theorem t proved / term k (s z z) z (s z z) / step unsafe k1 / step unsafe s1 / step unsafe z1 / step unsafe z1 / step unsafe z1 / step unsafe s1 / step unsafe z1 / step unsafe z1 / theorem u proved / term s z z / step unsafe s1 / step unsafe z1 / step unsafe z1 / end
-family p : type. theorem t : p -> p. => 3 => refused at 0: unsupported
+family \u{e9} : type. => 0 => aesop 1 budget 1000 / end
+family p : type. % a comment => 0 => aesop 1 budget 1000 / end
+family p : type. family q : p -> type. => 3 => refused at 0: unsupported
+family p : type. const a : (p -> p) -> p. => 3 => refused at 0: unsupported
 family p : type. const a : p. rule r : safe 50 apply a. => 3 => refused at 0: unsupported
-family p : type. const a : p. rule r : unsafe 101 apply a. => 3 => refused at 0: unsupported
-family p : type. const a : p. rule r : unsafe -1 apply a. => 3 => refused at 0: unsupported
-family p : type. family p : type. => 3 => refused at 0: unsupported
-family p : type. const p : p. => 3 => refused at 0: unsupported
-const a : p. family p : type. => 3 => refused at 0: unsupported
-family p : type. const a : p. rule hyps : unsafe 1 apply a. => 3 => refused at 0: unsupported
-family type : type. => 3 => refused at 0: unsupported
-family p : type => 3 => refused at 0: unsupported
-family p # type. => 3 => refused at 0: unsupported
-family \u{e9} : type. => 3 => refused at 0: unsupported"
+family p : type. const a : p. data p = a. => 3 => refused at 0: unsupported
+family p : type. const a : p. rule r : unsafe -1 apply a. => 3 => refused at 46: bad rule
+family p : type. const p : p. => 3 => refused at 23: taken
+const a : p. family p : type. => 3 => refused at 10: unknown
+family p : type. const a : p. rule hyps : unsafe 1 apply a. => 3 => refused at 35: taken
+family type : type. => 3 => refused at 7: expected
+family p : type => 3 => refused at 16: expected"
+}
+
+/// Files that are refused, with what is written of them. A bar stands for a line end in a file.
+fn refused_files() -> &'static str {
+    "\
+family p : type.|const a : p.|family q : p -> type.|theorem t : q (([x] x) a). => refused at 68: redex
+family p # type. => refused at 9: bad character
+family p : type.|theorem t : p => refused at 30: expected
+theorem t : p. => refused at 12: unknown
+family p : type. family p : type. => refused at 24: taken
+family p : type. const a : p. theorem t : p a. => refused at 44: ill typed
+family p : type. const c : p. rule r : unsafe 101 apply c. => refused at 46: bad rule
+family p : type. theorem t : p -> p. => refused at 0: unsupported"
+}
+
+/// What a theorem in many parentheses comes after.
+fn before_parentheses() -> &'static str {
+    "family p : type.|const a : p.|family q : p -> type.|theorem t : q "
 }
 
 /// A family with two rules, of which one leads nowhere.
@@ -63,7 +81,7 @@ fn other_lines() -> &'static str {
     "\nprove\nprove --workers 1\nprove --workers 0 --trace\ncheck"
 }
 
-fn words_of(alloc: Global, text: &str) -> Result<Words, NoMemory> {
+pub(crate) fn words_of(alloc: Global, text: &str) -> Result<Words, NoMemory> {
     let mut words = Words::new(alloc);
     for word in text.split_whitespace() {
         words.push(Name::from_slice(alloc, word.as_bytes())?)?;
@@ -72,13 +90,36 @@ fn words_of(alloc: Global, text: &str) -> Result<Words, NoMemory> {
 }
 
 /// The text with a line end for each ` / ` and at its end.
-fn lines_of(alloc: Global, text: &str) -> Result<Bytes, NoMemory> {
+pub(crate) fn lines_of(alloc: Global, text: &str) -> Result<Bytes, NoMemory> {
     let mut lines = Bytes::new(alloc);
     for line in text.split(" / ") {
         lines.append(line.as_bytes())?;
         lines.push(b'\n')?;
     }
     Ok(lines)
+}
+
+/// The text with a line end for each bar.
+fn file_of(alloc: Global, text: &str) -> Result<Bytes, NoMemory> {
+    let mut file = Bytes::new(alloc);
+    for byte in text.bytes() {
+        file.push(if byte == b'|' { b'\n' } else { byte })?;
+    }
+    Ok(file)
+}
+
+/// A theorem of an argument in so many parentheses.
+fn nested(alloc: Global, count: usize) -> Result<Bytes, NoMemory> {
+    let mut file = file_of(alloc, before_parentheses())?;
+    for _ in 0..count {
+        file.push(b'(')?;
+    }
+    file.push(b'a')?;
+    for _ in 0..count {
+        file.push(b')')?;
+    }
+    file.push(b'.')?;
+    Ok(file)
 }
 
 /// Adds so many binders of the family of a number.
@@ -110,11 +151,15 @@ fn lines_in(text: &[u8]) -> usize {
 
 /// The verdict of the only theorem of a file: its numbers, and whether its term is this one.
 fn verdict_of(alloc: Global, text: &str, term: &Term) -> Result<(Ids, bool), Fail> {
-    let file = small_file(alloc, text.as_bytes()).ok().ok_or("no file")?;
-    if file.theorems.len() != 1 {
+    let bytes = text.as_bytes();
+    if bytes.len() > 1000 {
         return Ok((Ids::new(alloc), false));
     }
-    match prove_small(alloc, &file, 0)? {
+    let program = small_of(alloc, bytes).ok().ok_or("no program")?;
+    if program.theorems.len() != 1 {
+        return Ok((Ids::new(alloc), false));
+    }
+    match prove_small(alloc, &program, 0)? {
         SmallVerdict::Proved(proof, numbers) => Ok((numbers, same(&proof, term))),
         SmallVerdict::Stuck => Ok((Ids::new(alloc), false)),
     }
@@ -176,6 +221,45 @@ fn files_are_answered(rt: HostRuntime) -> Result<(), Fail> {
         assert_eq!(rt; code, status.parse::<u8>()?, "{row}");
         let expected = lines_of(alloc, answer)?;
         assert_eq!(rt; held.as_slice(), expected.as_slice(), "{row}");
+    }
+    Ok(())
+}
+
+#[test]
+fn refused_files_have_their_lines(rt: HostRuntime) -> Result<(), Fail> {
+    let alloc = rt.alloc();
+    for row in refused_files().lines() {
+        let (text, line) = row.split_once(" => ").ok_or("no line")?;
+        let file = file_of(alloc, text)?;
+        let (code, held) = answer_of(alloc, file.as_slice())?;
+        let expected = lines_of(alloc, line)?;
+        assert_eq!(rt; code, 3, "{row}");
+        assert_eq!(rt; held.as_slice(), expected.as_slice(), "{row}");
+    }
+    Ok(())
+}
+
+#[test]
+fn a_byte_that_begins_no_character_is_refused(rt: HostRuntime) -> Result<(), Fail> {
+    let alloc = rt.alloc();
+    let (code, held) = answer_of(alloc, &[0xff])?;
+    assert_eq!(rt; code, 3);
+    assert_eq!(rt; held.as_slice(), b"refused at 0: not utf-8\n".as_slice());
+    Ok(())
+}
+
+#[test]
+fn parentheses_nest_so_deep(rt: HostRuntime) -> Result<(), Fail> {
+    let alloc = rt.alloc();
+    for (count, line) in [
+        (256, "refused at 0: unsupported"),
+        (257, "refused at 322: too deep"),
+    ] {
+        let file = nested(alloc, count)?;
+        let (code, held) = answer_of(alloc, file.as_slice())?;
+        let expected = lines_of(alloc, line)?;
+        assert_eq!(rt; code, 3);
+        assert_eq!(rt; held.as_slice(), expected.as_slice());
     }
     Ok(())
 }
@@ -253,10 +337,15 @@ fn other_words_are_usage(rt: HostRuntime) -> Result<(), Fail> {
 #[test]
 fn the_limit_is_a_number_of_bytes(rt: HostRuntime) -> Result<(), Fail> {
     let alloc = rt.alloc();
-    for (size, status) in [(4_194_304, 0), (4_194_305, 3)] {
+    for (size, status, text) in [
+        (4_194_304, 0, "aesop 1 budget 1000 / end"),
+        (4_194_305, 5, "refused: input too long"),
+    ] {
         let spaces = Bytes::from_vec(vec![in alloc; b' '; size]?);
-        let (code, _, _) = sure_answer(alloc, "prove --workers 0", spaces)?;
+        let (code, held, _) = sure_answer(alloc, "prove --workers 0", spaces)?;
+        let expected = lines_of(alloc, text)?;
         assert_eq!(rt; code, status);
+        assert_eq!(rt; held.as_slice(), expected.as_slice());
     }
     Ok(())
 }

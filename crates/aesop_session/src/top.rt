@@ -2,26 +2,30 @@
 
 ghost use Rattle.std.specs.Prelude.{◌≡◌, ◌≤◌, ◌⊎◌, Option, Some, List, ℕ};
 ghost use Rattle.run_io.specs.Causes.{Rose};
-ghost use Rattle.small_files.specs.declared.small.SmallFile.{SmallFile};
-ghost use Rattle.small_files.specs.SmallFiles.{IsNumbered, IsSmallFile};
+ghost use Rattle.run_io.specs.Moves.{TakesMoreThan};
+ghost use Rattle.small_programs.specs.SmallPrograms.{IsNumbered};
 ghost use Rattle.aesop_session.specs.Commands.{IsProve, prove_words};
-ghost use Rattle.aesop_session.specs.Answers.{Answered, IsAnswer, TakesFile, RefusesFile, Served};
+ghost use Rattle.aesop_session.specs.Answers.{Answered, IsStatusFor, most_bytes};
+ghost use Rattle.aesop_session.specs.Serving.{TakesSmall, TakesRefused};
 ghost use Rattle.aesop_session.specs.declared.status.Status.{Status};
 
 use crate::command::is_prove;
 use crate::document::{Stop, write_document, write_text};
-use crate::input::{NoFile, read_file};
+use crate::input::{NoProgram, read_program};
+use crate::refusal::{Refusal, line_of};
 use crate::status::Status;
 use lf_terms::Words;
 use run_io::{Sink, Source};
 use small_answers::Proofs;
-use small_files::SmallFile;
+use small_programs::SmallProgram;
 use std::alloc::Global;
 
 /// Does what the words say. It waits for nobody and returns.
 ///
 /// The words `prove`, `--workers` and `0` read a file from the source, prove its theorems and write
-/// the answers to the sink. All other words are `Usage`, and the usage line is written.
+/// the answers to the sink. Where more than 4,194,304 bytes were read they are `TooLong`. Bytes that are no
+/// file, and files whose program is not small, are `FileRefused`, with the line `refused at P: KIND`: P is
+/// the place of the first fault. All other words are `Usage`, and the usage line is written.
 pub fn run_still<S: Source, K: Sink>(
     alloc: Global,
     words: &Words,
@@ -41,10 +45,11 @@ pub fn run_still<S: Source, K: Sink>(
     // Other words read nothing.
     ensures reads_nothing { (IsProve words.now → ⊥) → source.new ≡ source.old }
 
-    // A small file is answered where nothing fails, unless memory runs out.
-    ensures complete { (input : List ℕ) (file : SmallFile) → IsProve words.now → S.left source.old ≡ Some input → IsSmallFile input file →
+    // Where nothing fails the input has its status, unless memory runs out: a small program is answered, what
+    // is refused is said to be so, and so is what is too long.
+    ensures complete { (input : List ℕ) → IsProve words.now → S.left source.old ≡ Some input →
         (Rose (S.faults source.old) (S.faults source.new) → ⊥) →
-        (Rose (K.faults sink.old) (K.faults sink.new) → ⊥) → (Rose (K.zeros sink.old) (K.zeros sink.new) → ⊥) → Served result }
+        (Rose (K.faults sink.old) (K.faults sink.new) → ⊥) → (Rose (K.zeros sink.old) (K.zeros sink.new) → ⊥) → IsStatusFor input result }
 {
     if is_prove(words) {
         prove(alloc, source, sink)
@@ -70,9 +75,9 @@ fn say_usage<K: Sink>(sink: &mut K) -> Status
     }
 }
 
-/// Writes that the file is refused.
-fn say_refused<K: Sink>(sink: &mut K) -> Status
-    ensures answered { (left : Option (List ℕ)) (later : Option (List ℕ)) → RefusesFile left later →
+/// Writes that the input is too long.
+fn say_too_long<K: Sink>(sink: &mut K) -> Status
+    ensures answered { (left : Option (List ℕ)) (later : Option (List ℕ)) → TakesMoreThan most_bytes left later →
         Answered prove_words left later (K.held sink.old) (K.held sink.new) result }
     ensures no_read_fault { result ≡ Status.ReadFault → ⊥ }
     ensures write_fault { result ≡ Status.WriteFault →
@@ -80,16 +85,36 @@ fn say_refused<K: Sink>(sink: &mut K) -> Status
     ensures faults_later { K.faults sink.old ≤ K.faults sink.new }
     ensures zeros_later { K.zeros sink.old ≤ K.zeros sink.new }
 {
-    match write_text(sink, b"refused at 0: unsupported\n") {
+    match write_text(sink, b"refused: input too long\n") {
+        Ok(()) => Status::TooLong,
+        Err(_) => Status::WriteFault,
+    }
+}
+
+/// Writes why and where the input is refused.
+fn say_refused<K: Sink>(alloc: Global, refusal: Refusal, sink: &mut K) -> Status
+    ensures answered { (left : Option (List ℕ)) (later : Option (List ℕ)) → TakesRefused left later refusal →
+        Answered prove_words left later (K.held sink.old) (K.held sink.new) result }
+    ensures no_read_fault { result ≡ Status.ReadFault → ⊥ }
+    ensures write_fault { result ≡ Status.WriteFault →
+        Rose (K.faults sink.old) (K.faults sink.new) ⊎ Rose (K.zeros sink.old) (K.zeros sink.new) }
+    ensures faults_later { K.faults sink.old ≤ K.faults sink.new }
+    ensures zeros_later { K.zeros sink.old ≤ K.zeros sink.new }
+{
+    let line = match line_of(alloc, refusal) {
+        Ok(line) => line,
+        Err(_) => return Status::NoMemory,
+    };
+    match write_text(sink, line.as_bytes()) {
         Ok(()) => Status::FileRefused,
         Err(_) => Status::WriteFault,
     }
 }
 
-/// Proves the theorems of a file and writes the answers.
-fn answer<K: Sink>(alloc: Global, file: &SmallFile, sink: &mut K) -> Status
-    requires { IsNumbered file.now }
-    ensures answered { (left : Option (List ℕ)) (later : Option (List ℕ)) → TakesFile left later file.now →
+/// Proves the theorems of a program and writes the answers.
+fn answer<K: Sink>(alloc: Global, program: &SmallProgram, sink: &mut K) -> Status
+    requires { IsNumbered program.now }
+    ensures answered { (left : Option (List ℕ)) (later : Option (List ℕ)) → TakesSmall left later program.now →
         Answered prove_words left later (K.held sink.old) (K.held sink.new) result }
     ensures no_read_fault { result ≡ Status.ReadFault → ⊥ }
     ensures write_fault { result ≡ Status.WriteFault →
@@ -97,11 +122,11 @@ fn answer<K: Sink>(alloc: Global, file: &SmallFile, sink: &mut K) -> Status
     ensures faults_later { K.faults sink.old ≤ K.faults sink.new }
     ensures zeros_later { K.zeros sink.old ≤ K.zeros sink.new }
 {
-    let proofs = match Proofs::of_file(alloc, file) {
+    let proofs = match Proofs::of_program(alloc, program) {
         Ok(proofs) => proofs,
         Err(_) => return Status::NoMemory,
     };
-    match write_document(alloc, file, &proofs, sink) {
+    match write_document(alloc, program, &proofs, sink) {
         Ok(status) => status,
         Err(Stop::Write) => Status::WriteFault,
         Err(Stop::NoMemory) => Status::NoMemory,
@@ -117,10 +142,11 @@ fn prove<S: Source, K: Sink>(alloc: Global, source: &mut S, sink: &mut K) -> Sta
     ensures source_later { S.faults source.old ≤ S.faults source.new }
     ensures sink_later { (K.faults sink.old ≤ K.faults sink.new) × (K.zeros sink.old ≤ K.zeros sink.new) }
 {
-    match read_file(alloc, source) {
-        Ok(file) => answer(alloc, &file, sink),
-        Err(NoFile::Fault) => Status::ReadFault,
-        Err(NoFile::Refused) => say_refused(sink),
-        Err(NoFile::NoMemory) => Status::NoMemory,
+    match read_program(alloc, source) {
+        Ok(program) => answer(alloc, &program, sink),
+        Err(NoProgram::Fault) => Status::ReadFault,
+        Err(NoProgram::TooLong) => say_too_long(sink),
+        Err(NoProgram::Refused(refusal)) => say_refused(alloc, refusal, sink),
+        Err(NoProgram::NoMemory) => Status::NoMemory,
     }
 }

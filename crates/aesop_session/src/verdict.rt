@@ -1,7 +1,7 @@
 //! The answer for one theorem.
 
 ghost use Rattle.std.specs.Prelude.{◌<◌, length, IfOk};
-ghost use Rattle.small_files.specs.SmallFiles.{IsNumbered};
+ghost use Rattle.small_programs.specs.SmallPrograms.{IsNumbered};
 ghost use Rattle.small_search.specs.Closings.{IsClosedAt};
 ghost use Rattle.small_answers.specs.Lengths.{IsProofs};
 ghost use Rattle.aesop_session.specs.Verdicts.{IsVerdict, IsVerdictOf};
@@ -9,10 +9,10 @@ ghost use Rattle.aesop_session.specs.Verdicts.{IsVerdict, IsVerdictOf};
 use lf_terms::term::copy;
 use lf_terms::{Ids, NoMemory, Term};
 use small_answers::{Proofs, append_numbers, terms_of};
-use small_files::SmallFile;
+use small_programs::SmallProgram;
 use std::alloc::Global;
 
-/// What is answered for a theorem of a small file.
+/// What is answered for a theorem of a small program.
 #[derive(Drop)]
 pub enum SmallVerdict {
     /// A derivation: its term, and the numbers of its rules from 2 in the order of declaration.
@@ -22,30 +22,34 @@ pub enum SmallVerdict {
 }
 
 /// Searches a derivation of the theorem of a number, from 0 in the order of declaration. Its time is
-/// linear in the size of the file and in the number of steps. It fails only where memory runs out,
+/// linear in the size of the program and in the number of steps. It fails only where memory runs out,
 /// or where there would be 2^31 steps or more.
-pub fn prove_small(alloc: Global, file: &SmallFile, theorem: u32) -> Result<SmallVerdict, NoMemory>
-    requires numbered { IsNumbered file.now }
-    requires known { theorem < length file.now.theorems }
-    ensures { IfOk result (IsVerdict file.now theorem) }
+pub fn prove_small(
+    alloc: Global,
+    program: &SmallProgram,
+    theorem: u32,
+) -> Result<SmallVerdict, NoMemory>
+    requires numbered { IsNumbered program.now }
+    requires known { theorem < length program.now.theorems }
+    ensures { IfOk result (IsVerdict program.now theorem) }
 {
-    let proofs = Proofs::of_file(alloc, file)?;
-    let family = file.theorems.as_slice()[theorem as usize].family;
-    verdict_of(alloc, file, &proofs, family)
+    let proofs = Proofs::of_program(alloc, program)?;
+    let family = program.theorems.as_slice()[theorem as usize].family;
+    verdict_of(alloc, program, &proofs, family)
 }
 
 /// The answer for a family.
 fn verdict_of(
     alloc: Global,
-    file: &SmallFile,
+    program: &SmallProgram,
     proofs: &Proofs,
     family: u32,
 ) -> Result<SmallVerdict, NoMemory>
-    requires { IsProofs file.now proofs.now }
-    ensures { IfOk result (IsVerdictOf file.now family) }
+    requires { IsProofs program.now proofs.now }
+    ensures { IfOk result (IsVerdictOf program.now family) }
 {
     match proofs.table.closing(family) {
-        Some(closing) => { proved_by(alloc, file, proofs, family, closing.rank) }
+        Some(closing) => { proved_by(alloc, program, proofs, family, closing.rank) }
         None => Ok(SmallVerdict::Stuck),
     }
 }
@@ -53,18 +57,18 @@ fn verdict_of(
 /// The derivation that the table gives for a family that was closed at a rank.
 fn proved_by(
     alloc: Global,
-    file: &SmallFile,
+    program: &SmallProgram,
     proofs: &Proofs,
     family: u32,
     rank: u32,
 ) -> Result<SmallVerdict, NoMemory>
-    requires proofs { IsProofs file.now proofs.now }
+    requires proofs { IsProofs program.now proofs.now }
     requires closed { IsClosedAt proofs.now.table.by_family rank family }
-    ensures { IfOk result (IsVerdictOf file.now family) }
+    ensures { IfOk result (IsVerdictOf program.now family) }
 {
     let mut numbers = Ids::new(alloc);
-    append_numbers(&mut numbers, file, &proofs.table, family)?;
-    let terms = terms_of(alloc, file, &proofs.table)?;
+    append_numbers(&mut numbers, program, &proofs.table, family)?;
+    let terms = terms_of(alloc, program, &proofs.table)?;
     let term = copy(&terms[rank as usize])?;
     Ok(SmallVerdict::Proved(term, numbers))
 }

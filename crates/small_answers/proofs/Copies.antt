@@ -4,8 +4,8 @@ use Rattle.std.proofs.lemmas.Option.{slice_get_read}
 use Rattle.lf_definitions.specs.Syntax.{LfTerm, at, constant, Spine, no_args, arg, joined}
 use Rattle.lf_terms.specs.declared.term.Term.{Term}
 use Rattle.lf_terms.specs.Terms.{term_of, spine_of}
-use Rattle.small_files.specs.declared.small.SmallFile.{SmallFile}
-use Rattle.small_files.specs.declared.small.SmallConst.{SmallConst}
+use Rattle.small_programs.specs.declared.small.SmallProgram.{SmallProgram}
+use Rattle.small_programs.specs.declared.small.SmallConst.{SmallConst}
 use Rattle.small_search.specs.declared.closing.Closing.{Closing}
 use Rattle.small_search.specs.Closings.{Closings}
 use Rattle.small_search.proofs.Lists.{slice_get-push_cases}
@@ -18,36 +18,36 @@ pub spine_of-push : (terms : List Term) (term : Term) → spine_of (terms ++ ter
 spine_of-push [] term = refl
 spine_of-push (t ∷ ts) term = ap (arg (term_of t)) (spine_of-push ts term)
 
-module _ (file : SmallFile) (closings : List (Option Closing)) where
-  pub AreGiven-none : AreGiven file closings [] no_args
+module _ (program : SmallProgram) (closings : List (Option Closing)) where
+  pub AreGiven-none : AreGiven program closings [] no_args
   AreGiven-none = record { numbers = []; gives = gives_none }
 
   -- one more term, as it is pushed
-  pub AreGiven-push : (goals : List ℕ) (goal : ℕ) (terms pushed : List Term) (term copy : Term) → AreGiven file closings goals (spine_of terms) → IsGiven file closings goal term → term_of copy ≡ term_of term →
-      pushed ≡ terms ++ copy ∷ [] → AreGiven file closings (goals ++ goal ∷ []) (spine_of pushed)
+  pub AreGiven-push : (goals : List ℕ) (goal : ℕ) (terms pushed : List Term) (term copy : Term) → AreGiven program closings goals (spine_of terms) → IsGiven program closings goal term → term_of copy ≡ term_of term →
+      pushed ≡ terms ++ copy ∷ [] → AreGiven program closings (goals ++ goal ∷ []) (spine_of pushed)
   AreGiven-push goals goal terms pushed term copy some one same is = record {
     numbers = some.numbers ++ one.numbers;
-    gives = subst (GivesTerms file closings (goals ++ goal ∷ []) (some.numbers ++ one.numbers))
+    gives = subst (GivesTerms program closings (goals ++ goal ∷ []) (some.numbers ++ one.numbers))
         (ap (λ (t : LfTerm). joined (spine_of terms) (arg t no_args)) (sym same) ∙ sym (spine_of-push terms copy) ∙ ap spine_of (sym is))
-        (GivesTerms-push file closings goals some.numbers one.numbers goal (spine_of terms) (term_of term) some.gives one.gives);
+        (GivesTerms-push program closings goals some.numbers one.numbers goal (spine_of terms) (term_of term) some.gives one.gives);
   }
 
-  pub AreGiven-chosen : (family rule number : ℕ) (declared : SmallConst) (terms : Spine) → IsChosen file closings family rule number declared → AreGiven file closings declared.binders terms → AreGiven file closings (family ∷ []) (arg (at (constant number) terms) no_args)
+  pub AreGiven-chosen : (family rule number : ℕ) (declared : SmallConst) (terms : Spine) → IsChosen program closings family rule number declared → AreGiven program closings declared.binders terms → AreGiven program closings (family ∷ []) (arg (at (constant number) terms) no_args)
   AreGiven-chosen family rule number declared terms chosen under = record {
     numbers = rule ∷ under.numbers;
-    gives = GivesTerm-chosen file closings family rule number declared under.numbers terms chosen under.gives;
+    gives = GivesTerm-chosen program closings family rule number declared under.numbers terms chosen under.gives;
   }
 
 -- the term of a binder
-pub IsGiven-at : (file : SmallFile) (table : Closings) (terms : List Term) (binder rank : ℕ) (term : Term) →
-    AreTerms file table terms → StandsAt table.order (length terms) binder rank → term ≡ get_or terms rank term → IsGiven file table.by_family binder term
-IsGiven-at file table terms binder rank term are stands reads =
-    subst (λ f. IsGiven file table.by_family f term) stands.family_is (are rank term (slice_get_read terms (length terms) rank term refl stands.below reads))
+pub IsGiven-at : (program : SmallProgram) (table : Closings) (terms : List Term) (binder rank : ℕ) (term : Term) →
+    AreTerms program table terms → StandsAt table.order (length terms) binder rank → term ≡ get_or terms rank term → IsGiven program table.by_family binder term
+IsGiven-at program table terms binder rank term are stands reads =
+    subst (λ f. IsGiven program table.by_family f term) stands.family_is (are rank term (slice_get_read terms (length terms) rank term refl stands.below reads))
 
 -- one more term
-pub AreTerms-push : (file : SmallFile) (table : Closings) (terms : List Term) (term : Term) (family : ℕ) → AreTerms file table terms → family ≡ slice_index table.order (length terms) → IsGiven file table.by_family family term → AreTerms file table (terms ++ term ∷ [])
-AreTerms-push file table terms term family are is one = λ rank t at_rank.
+pub AreTerms-push : (program : SmallProgram) (table : Closings) (terms : List Term) (term : Term) (family : ℕ) → AreTerms program table terms → family ≡ slice_index table.order (length terms) → IsGiven program table.by_family family term → AreTerms program table (terms ++ term ∷ [])
+AreTerms-push program table terms term family are is one = λ rank t at_rank.
     elim (slice_get-push_cases terms term rank t at_rank) [
       | inl old ↦ are rank t old
-      | inr new ↦ subst (λ k. IsGiven file table.by_family (slice_index table.order k) t) (sym new.0) (subst (λ f. IsGiven file table.by_family f t) is (subst (IsGiven file table.by_family family) (sym new.1) one))
+      | inr new ↦ subst (λ k. IsGiven program table.by_family (slice_index table.order k) t) (sym new.0) (subst (λ f. IsGiven program table.by_family f t) is (subst (IsGiven program table.by_family family) (sym new.1) one))
     ]

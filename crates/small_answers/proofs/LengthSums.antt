@@ -4,9 +4,9 @@ use Rattle.std.specs.Prelude.{codes, if◌then◌else◌}
 use Rattle.std.proofs.Math.Dec.{eqb-suc-zero}
 use Rattle.std.proofs.lemmas.List.Concat.{flat_map-append}
 use Rattle.lf_definitions.specs.Syntax.{at, constant, no_args, arg, joined}
-use Rattle.small_files.specs.declared.small.SmallFile.{SmallFile}
-use Rattle.small_files.specs.declared.small.SmallConst.{SmallConst}
-use Rattle.small_files.specs.Names.{constant_names, rule_names}
+use Rattle.small_programs.specs.declared.small.SmallProgram.{SmallProgram}
+use Rattle.small_programs.specs.declared.small.SmallConst.{SmallConst}
+use Rattle.small_programs.specs.Names.{constant_names, rule_names}
 use Rattle.small_search.specs.declared.closing.Closing.{Closing}
 use Rattle.small_search.specs.Closings.{Closings}
 use Rattle.std.proofs.lemmas.List.{get_or_default}
@@ -34,39 +34,39 @@ summed a b c x y z p q r e = omega arith
 more_by : (a b x y k m : ℕ) → a ≡ min x most → b ≡ min (a + k) most → y ≡ x + m → k ≡ m → b ≡ min y most
 more_by a b x y k m p q r e = omega arith
 
-module _ (file : SmallFile) (closings : List (Option Closing)) where
-  pub IsSums-none : IsSums file closings [] 0 0
+module _ (program : SmallProgram) (closings : List (Option Closing)) where
+  pub IsSums-none : IsSums program closings [] 0 0
   IsSums-none = record { numbers = []; terms = no_args; gives = gives_none; args_is = refl; steps_is = refl }
 
-  pub IsSums-push : (goals : List ℕ) (goal args steps args' steps' : ℕ) (entry : Length) → IsSums file closings goals args steps → IsLength file closings goal entry →
-      args' ≡ min (args + entry.argument) most → steps' ≡ min (steps + entry.script) most → IsSums file closings (goals ++ goal ∷ []) args' steps'
+  pub IsSums-push : (goals : List ℕ) (goal args steps args' steps' : ℕ) (entry : Length) → IsSums program closings goals args steps → IsLength program closings goal entry →
+      args' ≡ min (args + entry.argument) most → steps' ≡ min (steps + entry.script) most → IsSums program closings (goals ++ goal ∷ []) args' steps'
   IsSums-push goals goal args steps args' steps' entry sums one p q =
-      let names = constant_names file.constants in
-      let rules = rule_names file.rules in
+      let names = constant_names program.constants in
+      let rules = rule_names program.rules in
       let more : args_text names (joined sums.terms (arg one.term no_args)) ≡ args_text names sums.terms ++ args_text names (arg one.term no_args) = args_text-joined names sums.terms (arg one.term no_args) in
       let lines : script_text rules (sums.numbers ++ one.numbers) ≡ script_text rules sums.numbers ++ script_text rules one.numbers = flat_map-append (step_line rules) sums.numbers one.numbers in
       record {
         numbers = sums.numbers ++ one.numbers;
         terms = joined sums.terms (arg one.term no_args);
-        gives = GivesTerms-join file closings goals (goal ∷ []) sums.numbers one.numbers sums.terms (arg one.term no_args) sums.gives one.gives;
+        gives = GivesTerms-join program closings goals (goal ∷ []) sums.numbers one.numbers sums.terms (arg one.term no_args) sums.gives one.gives;
         args_is = summed args entry.argument args' (length (args_text names sums.terms)) (length (args_text names (arg one.term no_args))) (length (args_text names (joined sums.terms (arg one.term no_args))))
             sums.args_is one.argument_is p (ap length more ∙ length-append (args_text names sums.terms) (args_text names (arg one.term no_args)));
         steps_is = summed steps entry.script steps' (length (script_text rules sums.numbers)) (length (script_text rules one.numbers)) (length (script_text rules (sums.numbers ++ one.numbers)))
             sums.steps_is one.script_is q (ap length lines ∙ length-append (script_text rules sums.numbers) (script_text rules one.numbers));
       }
 
-  pub IsLength-chosen : (family rule number args steps : ℕ) (declared : SmallConst) (entry : Length) (rule_text : List ℕ) → IsChosen file closings family rule number declared → IsSums file closings declared.binders args steps →
-      rule_text ≡ name_at (rule_names file.rules) rule →
+  pub IsLength-chosen : (family rule number args steps : ℕ) (declared : SmallConst) (entry : Length) (rule_text : List ℕ) → IsChosen program closings family rule number declared → IsSums program closings declared.binders args steps →
+      rule_text ≡ name_at (rule_names program.rules) rule →
       entry.term ≡ min (min (length declared.name) most + args) most →
       entry.argument ≡ min (entry.term + (if nat_lt 0 (length declared.binders) then 3 else 1)) most →
-      entry.script ≡ min (min (min (length rule_text) most + 13) most + steps) most → IsLength file closings family entry
+      entry.script ≡ min (min (min (length rule_text) most + 13) most + steps) most → IsLength program closings family entry
   IsLength-chosen family rule number args steps declared entry rule_text chosen sums named p q r =
-      let names = constant_names file.constants in
-      let rules = rule_names file.rules in
-      let is : slice_get file.constants number ≡ Some declared = ap (slice_get file.constants) (sym chosen.number_is) ∙ chosen.is_rule.constant_is in
-      let name : name_at names number ≡ declared.name = name_of_constant file.constants number declared is in
+      let names = constant_names program.constants in
+      let rules = rule_names program.rules in
+      let is : slice_get program.constants number ≡ Some declared = ap (slice_get program.constants) (sym chosen.number_is) ∙ chosen.is_rule.constant_is in
+      let name : name_at names number ≡ declared.name = name_of_constant program.constants number declared is in
       let term = at (constant number) sums.terms in
-      let nested : nat_lt 0 (length declared.binders) ≡ has_args term = args_of_binders file closings number declared.binders sums.numbers sums.terms sums.gives in
+      let nested : nat_lt 0 (length declared.binders) ≡ has_args term = args_of_binders program closings number declared.binders sums.numbers sums.terms sums.gives in
       let size : length (term_text names term) ≡ length declared.name + length (args_text names sums.terms) = length-append (name_at names number) (args_text names sums.terms) ∙ ap (λ (t : List ℕ). length t + length (args_text names sums.terms)) name in
       let outer : length (args_text names (arg term no_args)) ≡ length (term_text names term) + (if has_args term then 3 else 1) = argument_length (has_args term) (term_text names term) in
       let around : Bool → ℕ = λ b. if b then 3 else 1 in
@@ -77,7 +77,7 @@ module _ (file : SmallFile) (closings : List (Option Closing)) where
       record {
         numbers = rule ∷ sums.numbers;
         term = term;
-        gives = GivesTerm-chosen file closings family rule number declared sums.numbers sums.terms chosen sums.gives;
+        gives = GivesTerm-chosen program closings family rule number declared sums.numbers sums.terms chosen sums.gives;
         term_is = term_is;
         argument_is = more_by entry.term entry.argument (length (term_text names term)) (length (args_text names (arg term no_args))) (if nat_lt 0 (length declared.binders) then 3 else 1) (if has_args term then 3 else 1) term_is q outer extra;
         script_is = omega (arith, r, sums.steps_is, lines);
@@ -86,19 +86,19 @@ module _ (file : SmallFile) (closings : List (Option Closing)) where
 -- ---- a list of lengths
 
 -- one more entry
-pub AreLengths-push : (file : SmallFile) (table : Closings) (entries : List Length) (entry : Length) (family : ℕ) → AreLengths file table entries → family ≡ slice_index table.order (length entries) → IsLength file table.by_family family entry → AreLengths file table (entries ++ entry ∷ [])
-AreLengths-push file table entries entry family are is one = λ rank e at_rank.
+pub AreLengths-push : (program : SmallProgram) (table : Closings) (entries : List Length) (entry : Length) (family : ℕ) → AreLengths program table entries → family ≡ slice_index table.order (length entries) → IsLength program table.by_family family entry → AreLengths program table (entries ++ entry ∷ [])
+AreLengths-push program table entries entry family are is one = λ rank e at_rank.
     elim (slice_get-push_cases entries entry rank e at_rank) [
       | inl old ↦ are rank e old
-      | inr new ↦ subst (λ k. IsLength file table.by_family (slice_index table.order k) e) (sym new.0) (subst (λ f. IsLength file table.by_family f e) is (subst (IsLength file table.by_family family) (sym new.1) one))
+      | inr new ↦ subst (λ k. IsLength program table.by_family (slice_index table.order k) e) (sym new.0) (subst (λ f. IsLength program table.by_family f e) is (subst (IsLength program table.by_family family) (sym new.1) one))
     ]
 
 -- the entry of a binder
-pub IsLength-at : (file : SmallFile) (table : Closings) (entries : List Length) (binder rank : ℕ) (d : Length) →
-    AreLengths file table entries → StandsAt table.order (length entries) binder rank → IsLength file table.by_family binder (get_or entries rank d)
-IsLength-at file table entries binder rank d are stands =
+pub IsLength-at : (program : SmallProgram) (table : Closings) (entries : List Length) (binder rank : ℕ) (d : Length) →
+    AreLengths program table entries → StandsAt table.order (length entries) binder rank → IsLength program table.by_family binder (get_or entries rank d)
+IsLength-at program table entries binder rank d are stands =
     let entry = get_or entries rank d in
-    subst (λ f. IsLength file table.by_family f entry) stands.family_is
+    subst (λ f. IsLength program table.by_family f entry) stands.family_is
     (are rank entry (slice_get_read entries (length entries) rank entry refl stands.below (get_or_default entries rank d entry stands.below)))
 
 not_none : (n : ℕ) → nat_eq (suc n) 0 ≡ false

@@ -1,7 +1,7 @@
 -- Where families stand in the order of a table.
 use Rattle.std.proofs.Common.{◌≡◌, ℕ, ◌<◌, List, length, get_or, All, Some, option_map, slice_index, sym, subst, ap, ◌∙◌, arith}
-use Rattle.small_files.specs.declared.small.SmallFile.{SmallFile}
-use Rattle.small_files.specs.declared.small.SmallConst.{SmallConst}
+use Rattle.small_programs.specs.declared.small.SmallProgram.{SmallProgram}
+use Rattle.small_programs.specs.declared.small.SmallConst.{SmallConst}
 use Rattle.small_search.specs.declared.closing.Closing.{Closing}
 use Rattle.small_search.specs.Closings.{Closings, closing_of, IsClosings, IsClosedAt, IsClosedBelow}
 use Rattle.small_search.proofs.Options.{some_from_map}
@@ -13,11 +13,11 @@ pub record StandsAt (order : List ℕ) (count family rank : ℕ) : Type 0 where
   pub family_is : slice_index order rank ≡ family
 
 -- the binder at a place of what is chosen at a rank stands before it
-pub StandsAt-binder : (file : SmallFile) (table : Closings) (count family rule number : ℕ) (declared : SmallConst) (binders : List ℕ) (i rank : ℕ) →
-    IsClosings file table.by_family table.order → IsClosedAt table.by_family count family → IsChosen file table.by_family family rule number declared →
+pub StandsAt-binder : (program : SmallProgram) (table : Closings) (count family rule number : ℕ) (declared : SmallConst) (binders : List ℕ) (i rank : ℕ) →
+    IsClosings program table.by_family table.order → IsClosedAt table.by_family count family → IsChosen program table.by_family family rule number declared →
     binders ≡ declared.binders → i < length binders → Some rank ≡ option_map (λ (c : Closing). c.rank) (closing_of table.by_family (get_or binders i 0)) →
     StandsAt table.order count (get_or binders i 0) rank
-StandsAt-binder file table count family rule number declared binders i rank closings last chosen same within finds =
+StandsAt-binder program table count family rule number declared binders i rank closings last chosen same within finds =
     let binder = get_or binders i 0 in
     let earlier = subst (All (IsClosedBelow table.by_family chosen.closing.rank)) (sym same) chosen.earlier in
     let below : IsClosedBelow table.by_family chosen.closing.rank binder = earlier i 0 within in

@@ -5,10 +5,10 @@ use Rattle.std.proofs.lemmas.List.{get_or-map, flat_map_more}
 use Rattle.std.proofs.lemmas.Bool.{lt-ltb}
 use Rattle.std.proofs.lemmas.Option.{slice_get_within, get_or_from_slice_get}
 use Rattle.lf_definitions.specs.Syntax.{LfTerm, at, constant, Spine, no_args, arg, joined}
-use Rattle.small_files.specs.declared.small.SmallFile.{SmallFile}
-use Rattle.small_files.specs.declared.small.SmallConst.{SmallConst}
-use Rattle.small_files.specs.declared.small.SmallRule.{SmallRule}
-use Rattle.small_files.specs.Names.{constant_names, rule_names}
+use Rattle.small_programs.specs.declared.small.SmallProgram.{SmallProgram}
+use Rattle.small_programs.specs.declared.small.SmallConst.{SmallConst}
+use Rattle.small_programs.specs.declared.small.SmallRule.{SmallRule}
+use Rattle.small_programs.specs.Names.{constant_names, rule_names}
 use Rattle.small_search.specs.declared.closing.Closing.{Closing}
 use Rattle.small_answers.specs.Texts.{name_at, has_args, in_parentheses, term_text, args_text, step_line, script_text}
 use Rattle.small_answers.specs.Chosen.{IsChosen, GivesTerms, gives_none, gives_one, GivesTerm}
@@ -22,23 +22,23 @@ rank_of (Some closing) = closing.rank
 
 -- ---- numbers
 
-module _ (file : SmallFile) (closings : List (Option Closing)) where
-  pub AddsNumbers-none : (old : List ℕ) → AddsNumbers file closings [] old old
+module _ (program : SmallProgram) (closings : List (Option Closing)) where
+  pub AddsNumbers-none : (old : List ℕ) → AddsNumbers program closings [] old old
   AddsNumbers-none old = record { numbers = []; terms = no_args; gives = gives_none; added = sym (append-nil old) }
 
-  pub AddsNumbers-push : (goals old middle new : List ℕ) (goal : ℕ) → AddsNumbers file closings goals old middle → AddsNumbers file closings (goal ∷ []) middle new → AddsNumbers file closings (goals ++ goal ∷ []) old new
+  pub AddsNumbers-push : (goals old middle new : List ℕ) (goal : ℕ) → AddsNumbers program closings goals old middle → AddsNumbers program closings (goal ∷ []) middle new → AddsNumbers program closings (goals ++ goal ∷ []) old new
   AddsNumbers-push goals old middle new goal some one = record {
     numbers = some.numbers ++ one.numbers;
     terms = joined some.terms one.terms;
-    gives = GivesTerms-join file closings goals (goal ∷ []) some.numbers one.numbers some.terms one.terms some.gives one.gives;
+    gives = GivesTerms-join program closings goals (goal ∷ []) some.numbers one.numbers some.terms one.terms some.gives one.gives;
     added = one.added ∙ ap (λ (ks : List ℕ). ks ++ one.numbers) some.added ∙ append_assoc old some.numbers one.numbers;
   }
 
-  pub AddsNumbers-chosen : (family rule number : ℕ) (declared : SmallConst) (old middle new : List ℕ) → IsChosen file closings family rule number declared → middle ≡ old ++ rule ∷ [] → AddsNumbers file closings declared.binders middle new → AddsNumbers file closings (family ∷ []) old new
+  pub AddsNumbers-chosen : (family rule number : ℕ) (declared : SmallConst) (old middle new : List ℕ) → IsChosen program closings family rule number declared → middle ≡ old ++ rule ∷ [] → AddsNumbers program closings declared.binders middle new → AddsNumbers program closings (family ∷ []) old new
   AddsNumbers-chosen family rule number declared old middle new chosen first under = record {
     numbers = rule ∷ under.numbers;
     terms = arg (at (constant number) under.terms) no_args;
-    gives = GivesTerm-chosen file closings family rule number declared under.numbers under.terms chosen under.gives;
+    gives = GivesTerm-chosen program closings family rule number declared under.numbers under.terms chosen under.gives;
     added = under.added ∙ ap (λ (ks : List ℕ). ks ++ under.numbers) first ∙ append_assoc old (rule ∷ []) under.numbers;
   }
 
@@ -64,25 +64,25 @@ pub some_below : (n : ℕ) → nat_lt 0 (suc n) ≡ true
 some_below n = lt-ltb 0 (suc n) (omega arith)
 
 -- the binders give the arguments, and so there are some where there is a binder
-pub args_of_binders : (file : SmallFile) (closings : List (Option Closing)) (number : ℕ) (binders below : List ℕ) (args : Spine) → GivesTerms file closings binders below args → nat_lt 0 (length binders) ≡ has_args (at (constant number) args)
-args_of_binders file closings number binders below args gives_none = refl
-args_of_binders file closings number binders below args (gives_one goal rule n declared goals under rest more inner others chosen one after parts) = some_below (length goals)
+pub args_of_binders : (program : SmallProgram) (closings : List (Option Closing)) (number : ℕ) (binders below : List ℕ) (args : Spine) → GivesTerms program closings binders below args → nat_lt 0 (length binders) ≡ has_args (at (constant number) args)
+args_of_binders program closings number binders below args gives_none = refl
+args_of_binders program closings number binders below args (gives_one goal rule n declared goals under rest more inner others chosen one after parts) = some_below (length goals)
 
-module _ (file : SmallFile) (closings : List (Option Closing)) where
-  pub has_args-chosen : (family rule number : ℕ) (declared : SmallConst) (numbers : List ℕ) (term : LfTerm) → IsChosen file closings family rule number declared → GivesTerm file closings family numbers term → nat_lt 0 (length declared.binders) ≡ has_args term
+module _ (program : SmallProgram) (closings : List (Option Closing)) where
+  pub has_args-chosen : (family rule number : ℕ) (declared : SmallConst) (numbers : List ℕ) (term : LfTerm) → IsChosen program closings family rule number declared → GivesTerm program closings family numbers term → nat_lt 0 (length declared.binders) ≡ has_args term
   has_args-chosen family rule number declared numbers term chosen (gives_one goal rule' number' declared' goals below rest more args others chosen' under after parts) =
-      let one = IsChosen-one file closings family rule rule' number number' declared declared' chosen chosen' in
-      ap (λ (c : SmallConst). nat_lt 0 (length c.binders)) one.constants ∙ args_of_binders file closings number' declared'.binders below args under
+      let one = IsChosen-one program closings family rule rule' number number' declared declared' chosen chosen' in
+      ap (λ (c : SmallConst). nat_lt 0 (length c.binders)) one.constants ∙ args_of_binders program closings number' declared'.binders below args under
 
-  pub AddsArgs-none : (old : List ℕ) → AddsArgs file closings [] old old
+  pub AddsArgs-none : (old : List ℕ) → AddsArgs program closings [] old old
   AddsArgs-none old = record { numbers = []; terms = no_args; gives = gives_none; added = sym (append-nil old) }
 
   pub AddsArgs-push : (goals old a b c new : List ℕ) (goal : ℕ) (is_nested : Bool) →
-      ((numbers : List ℕ) (term : LfTerm) → GivesTerm file closings goal numbers term → is_nested ≡ has_args term) →
-      AddsArgs file closings goals old a → b ≡ a ++ (if is_nested then codes " (" else codes " ") → AddsTerm file closings goal b c →
-      new ≡ c ++ (if is_nested then codes ")" else codes "") → AddsArgs file closings (goals ++ goal ∷ []) old new
+      ((numbers : List ℕ) (term : LfTerm) → GivesTerm program closings goal numbers term → is_nested ≡ has_args term) →
+      AddsArgs program closings goals old a → b ≡ a ++ (if is_nested then codes " (" else codes " ") → AddsTerm program closings goal b c →
+      new ≡ c ++ (if is_nested then codes ")" else codes "") → AddsArgs program closings (goals ++ goal ∷ []) old new
   AddsArgs-push goals old a b c new goal is_nested nests some before one after =
-      let names = constant_names file.constants in
+      let names = constant_names program.constants in
       let text = term_text names one.term in
       let open_ = if is_nested then codes " (" else codes " " in
       let close_ = if is_nested then codes ")" else codes "" in
@@ -94,23 +94,23 @@ module _ (file : SmallFile) (closings : List (Option Closing)) where
       record {
         numbers = some.numbers ++ one.numbers;
         terms = joined some.terms (arg one.term no_args);
-        gives = GivesTerms-push file closings goals some.numbers one.numbers goal some.terms one.term some.gives one.gives;
+        gives = GivesTerms-push program closings goals some.numbers one.numbers goal some.terms one.term some.gives one.gives;
         added = far ∙ ap (λ (t : List ℕ). a ++ t) piece ∙ ap (λ (t : List ℕ). t ++ args_text names (arg one.term no_args)) some.added
             ∙ append_assoc old (args_text names some.terms) (args_text names (arg one.term no_args))
             ∙ ap (λ (t : List ℕ). old ++ t) (sym (args_text-joined names some.terms (arg one.term no_args)));
       }
 
-  pub AddsTerm-chosen : (family rule number : ℕ) (declared : SmallConst) (old middle new : List ℕ) → IsChosen file closings family rule number declared → middle ≡ old ++ declared.name → AddsArgs file closings declared.binders middle new → AddsTerm file closings family old new
+  pub AddsTerm-chosen : (family rule number : ℕ) (declared : SmallConst) (old middle new : List ℕ) → IsChosen program closings family rule number declared → middle ≡ old ++ declared.name → AddsArgs program closings declared.binders middle new → AddsTerm program closings family old new
   AddsTerm-chosen family rule number declared old middle new chosen first under =
-      let names = constant_names file.constants in
-      let is : slice_get file.constants number ≡ Some declared = ap (slice_get file.constants) (sym chosen.number_is) ∙ chosen.is_rule.constant_is in
+      let names = constant_names program.constants in
+      let is : slice_get program.constants number ≡ Some declared = ap (slice_get program.constants) (sym chosen.number_is) ∙ chosen.is_rule.constant_is in
       record {
         numbers = rule ∷ under.numbers;
         term = at (constant number) under.terms;
-        gives = GivesTerm-chosen file closings family rule number declared under.numbers under.terms chosen under.gives;
+        gives = GivesTerm-chosen program closings family rule number declared under.numbers under.terms chosen under.gives;
         added = under.added ∙ ap (λ (t : List ℕ). t ++ args_text names under.terms) first
             ∙ append_assoc old declared.name (args_text names under.terms)
-            ∙ ap (λ (t : List ℕ). old ++ (t ++ args_text names under.terms)) (sym (name_of_constant file.constants number declared is));
+            ∙ ap (λ (t : List ℕ). old ++ (t ++ args_text names under.terms)) (sym (name_of_constant program.constants number declared is));
       }
 
 -- ---- scripts

@@ -1,29 +1,29 @@
 -- What is added at the end for goals that a table closes.
 use Rattle.std.specs.Prelude.{◌≡◌, ℕ, List, ◌++◌, Option}
 use Rattle.lf_definitions.specs.Syntax.{LfTerm, Spine}
-use Rattle.small_files.specs.declared.small.SmallFile.{SmallFile}
-use Rattle.small_files.specs.Names.{constant_names}
+use Rattle.small_programs.specs.declared.small.SmallProgram.{SmallProgram}
+use Rattle.small_programs.specs.Names.{constant_names}
 use Rattle.small_search.specs.declared.closing.Closing.{Closing}
 use Rattle.small_answers.specs.Texts.{term_text, args_text}
 use Rattle.small_answers.specs.Chosen.{GivesTerm, GivesTerms}
 
 -- The numbers that close the goals are added.
-pub record AddsNumbers (file : SmallFile) (closings : List (Option Closing)) (goals old new : List ℕ) : Type 0 where
+pub record AddsNumbers (program : SmallProgram) (closings : List (Option Closing)) (goals old new : List ℕ) : Type 0 where
   pub numbers : List ℕ
   pub terms : Spine
-  pub gives : GivesTerms file closings goals numbers terms
+  pub gives : GivesTerms program closings goals numbers terms
   pub added : new ≡ old ++ numbers
 
 -- The texts of the terms that close the goals are added, as those of arguments.
-pub record AddsArgs (file : SmallFile) (closings : List (Option Closing)) (goals old new : List ℕ) : Type 0 where
+pub record AddsArgs (program : SmallProgram) (closings : List (Option Closing)) (goals old new : List ℕ) : Type 0 where
   pub numbers : List ℕ
   pub terms : Spine
-  pub gives : GivesTerms file closings goals numbers terms
-  pub added : new ≡ old ++ args_text (constant_names file.constants) terms
+  pub gives : GivesTerms program closings goals numbers terms
+  pub added : new ≡ old ++ args_text (constant_names program.constants) terms
 
 -- The text of the term that closes the goal is added.
-pub record AddsTerm (file : SmallFile) (closings : List (Option Closing)) (goal : ℕ) (old new : List ℕ) : Type 0 where
+pub record AddsTerm (program : SmallProgram) (closings : List (Option Closing)) (goal : ℕ) (old new : List ℕ) : Type 0 where
   pub numbers : List ℕ
   pub term : LfTerm
-  pub gives : GivesTerm file closings goal numbers term
-  pub added : new ≡ old ++ term_text (constant_names file.constants) term
+  pub gives : GivesTerm program closings goal numbers term
+  pub added : new ≡ old ++ term_text (constant_names program.constants) term

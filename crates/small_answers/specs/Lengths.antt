@@ -1,8 +1,8 @@
--- The lengths of the texts that a table gives, up to a bound, and what is made once for a file.
+-- The lengths of the texts that a table gives, up to a bound, and what is made once for a program.
 use Rattle.std.specs.Prelude.{◌≡◌, ℕ, List, length, min, Option, Some, slice_get, slice_index}
 use Rattle.lf_definitions.specs.Syntax.{LfTerm, Spine, no_args, arg}
-use Rattle.small_files.specs.declared.small.SmallFile.{SmallFile}
-use Rattle.small_files.specs.Names.{constant_names, rule_names}
+use Rattle.small_programs.specs.declared.small.SmallProgram.{SmallProgram}
+use Rattle.small_programs.specs.Names.{constant_names, rule_names}
 use Rattle.small_search.specs.declared.closing.Closing.{Closing}
 use Rattle.small_search.specs.Closings.{Closings, IsTable}
 use Rattle.small_answers.specs.declared.lengths.Length.{Length}
@@ -15,29 +15,29 @@ abbrev pub most : ℕ
 most = 2147483648
 
 -- The lengths of the arguments and of the script that the table gives for the goals.
-pub record IsSums (file : SmallFile) (closings : List (Option Closing)) (goals : List ℕ) (args steps : ℕ) : Type 0 where
+pub record IsSums (program : SmallProgram) (closings : List (Option Closing)) (goals : List ℕ) (args steps : ℕ) : Type 0 where
   pub numbers : List ℕ
   pub terms : Spine
-  pub gives : GivesTerms file closings goals numbers terms
-  pub args_is : args ≡ min (length (args_text (constant_names file.constants) terms)) most
-  pub steps_is : steps ≡ min (length (script_text (rule_names file.rules) numbers)) most
+  pub gives : GivesTerms program closings goals numbers terms
+  pub args_is : args ≡ min (length (args_text (constant_names program.constants) terms)) most
+  pub steps_is : steps ≡ min (length (script_text (rule_names program.rules) numbers)) most
 
 -- The lengths of the family's term, of this term as an argument with the space before it, and of the script.
-pub record IsLength (file : SmallFile) (closings : List (Option Closing)) (family : ℕ) (entry : Length) : Type 0 where
+pub record IsLength (program : SmallProgram) (closings : List (Option Closing)) (family : ℕ) (entry : Length) : Type 0 where
   pub numbers : List ℕ
   pub term : LfTerm
-  pub gives : GivesTerm file closings family numbers term
-  pub term_is : entry.term ≡ min (length (term_text (constant_names file.constants) term)) most
-  pub argument_is : entry.argument ≡ min (length (args_text (constant_names file.constants) (arg term no_args))) most
-  pub script_is : entry.script ≡ min (length (script_text (rule_names file.rules) numbers)) most
+  pub gives : GivesTerm program closings family numbers term
+  pub term_is : entry.term ≡ min (length (term_text (constant_names program.constants) term)) most
+  pub argument_is : entry.argument ≡ min (length (args_text (constant_names program.constants) (arg term no_args))) most
+  pub script_is : entry.script ≡ min (length (script_text (rule_names program.rules) numbers)) most
 
 -- The entries are the lengths of the families that were closed first, in their order.
-abbrev pub AreLengths : SmallFile → Closings → List Length → Type 0
-AreLengths file table entries =
-    (rank : ℕ) (entry : Length) → slice_get entries rank ≡ Some entry → IsLength file table.by_family (slice_index table.order rank) entry
+abbrev pub AreLengths : SmallProgram → Closings → List Length → Type 0
+AreLengths program table entries =
+    (rank : ℕ) (entry : Length) → slice_get entries rank ≡ Some entry → IsLength program table.by_family (slice_index table.order rank) entry
 
--- The table of the file, and the lengths of all its families.
-pub record IsProofs (file : SmallFile) (proofs : Proofs) : Type 0 where
-  pub table : IsTable file proofs.table
+-- The table of the program, and the lengths of all its families.
+pub record IsProofs (program : SmallProgram) (proofs : Proofs) : Type 0 where
+  pub table : IsTable program proofs.table
   pub size : length proofs.lengths.items ≡ length proofs.table.order
-  pub lengths : AreLengths file proofs.table proofs.lengths.items
+  pub lengths : AreLengths program proofs.table proofs.lengths.items

@@ -20,7 +20,7 @@ abbrev pub in_parentheses : Bool → List ℕ → List ℕ
 in_parentheses true text = codes "(" ++ text ++ codes ")"
 in_parentheses false text = text
 
--- The text of a term whose heads are constants, as those of small files are: the head's name, and then for each
+-- The text of a term whose heads are constants, as those of small programs are: the head's name, and then for each
 -- argument a space and the argument, which stands in parentheses unless it has no arguments.
 abbrev mutual
   pub term_text : (names : List (List ℕ)) → LfTerm → List ℕ

@@ -1,4 +1,4 @@
-//! Answers for the theorems of small files: from the table of a search the numbers of a derivation,
+//! Answers for the families of a small program: from the table of a search the numbers of a derivation,
 //! its term, and the texts of both. Below stand `small_search` with the table and `lf_terms` with
 //! terms and bytes.
 //! Proved: what is made for a family is a derivation of it, with its term and their texts.

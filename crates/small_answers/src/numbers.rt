@@ -7,7 +7,7 @@ ghost use Rattle.small_answers.specs.Additions.{AddsNumbers};
 use crate::choices::choice_of;
 use crate::lengths::MOST;
 use lf_terms::{Ids, NoMemory};
-use small_files::SmallFile;
+use small_programs::SmallProgram;
 use small_search::Table;
 
 /// Adds the numbers of the rules that close a closed family, in the order in which they close a list
@@ -15,21 +15,21 @@ use small_search::Table;
 /// linear in how many there are. A list of 2^31 numbers is want of memory.
 pub fn append_numbers(
     numbers: &mut Ids,
-    file: &SmallFile,
+    program: &SmallProgram,
     table: &Table,
     family: u32,
 ) -> Result<(), NoMemory>
-    requires table { IsTable file.now table.now }
+    requires table { IsTable program.now table.now }
     requires closed { IsSome (closing_of table.now.by_family family) }
-    ensures { OnOk result (AddsNumbers file.now table.now.by_family (family ∷ []) numbers.old numbers.new) }
+    ensures { OnOk result (AddsNumbers program.now table.now.by_family (family ∷ []) numbers.old numbers.new) }
 {
     if numbers.len() >= MOST as usize {
         return Err(NoMemory);
     }
-    let choice = choice_of(file, table, family);
+    let choice = choice_of(program, table, family);
     numbers.push(choice.rule)?;
     for binder in choice.constant.binders.as_slice() {
-        append_numbers(numbers, file, table, *binder)?;
+        append_numbers(numbers, program, table, *binder)?;
     }
     Ok(())
 }

@@ -1,16 +1,16 @@
-//! What is made once for a file.
+//! What is made once for a program.
 
 ghost use Rattle.std.specs.Prelude.{IfOk};
-ghost use Rattle.small_files.specs.SmallFiles.{IsNumbered};
+ghost use Rattle.small_programs.specs.SmallPrograms.{IsNumbered};
 
 use crate::lengths::Length;
 use crate::table_lengths::lengths_of;
 use lf_terms::NoMemory;
-use small_files::SmallFile;
+use small_programs::SmallProgram;
 use small_search::{Table, search};
 use std::alloc::Global;
 
-/// The table of a file and the lengths of the texts that it gives, by the ranks of the families.
+/// The table of a program and the lengths of the texts that it gives, by the ranks of the families.
 #[derive(Drop)]
 pub struct Proofs {
     pub table: Table,
@@ -20,13 +20,13 @@ pub struct Proofs {
 impl Proofs {
     ghost use Rattle.small_answers.specs.Lengths.{IsProofs};
 
-    /// What all theorems of a file share. Its time and its memory are linear in the size of the file.
-    pub fn of_file(alloc: Global, file: &SmallFile) -> Result<Proofs, NoMemory>
-        requires { IsNumbered file.now }
-        ensures { IfOk result (λ proofs. IsProofs file.now proofs) }
+    /// What all theorems of a program share. Its time and its memory are linear in the size of the program.
+    pub fn of_program(alloc: Global, program: &SmallProgram) -> Result<Proofs, NoMemory>
+        requires { IsNumbered program.now }
+        ensures { IfOk result (λ proofs. IsProofs program.now proofs) }
     {
-        let table = search(alloc, file)?;
-        let lengths = lengths_of(alloc, file, &table)?;
+        let table = search(alloc, program)?;
+        let lengths = lengths_of(alloc, program, &table)?;
         Ok(Proofs { table, lengths })
     }
 }

@@ -8,18 +8,18 @@ use crate::choices::choice_of;
 use crate::lengths::{Length, capped_sum, length_by};
 use crate::script::rule_name;
 use lf_terms::NoMemory;
-use small_files::SmallFile;
+use small_programs::SmallProgram;
 use small_search::Table;
 use std::alloc::Global;
 
 /// The lengths for a family, by those of the families that were closed before it.
-fn length_of(file: &SmallFile, table: &Table, lengths: &[Length], family: u32) -> Length
-    requires table { IsTable file.now table.now }
+fn length_of(program: &SmallProgram, table: &Table, lengths: &[Length], family: u32) -> Length
+    requires table { IsTable program.now table.now }
     requires family { IsClosedAt table.now.by_family (length lengths.now) family }
-    requires before { AreLengths file.now table.now lengths.now }
-    ensures { IsLength file.now table.now.by_family family result }
+    requires before { AreLengths program.now table.now lengths.now }
+    ensures { IsLength program.now table.now.by_family family result }
 {
-    let choice = choice_of(file, table, family);
+    let choice = choice_of(program, table, family);
     let binders = choice.constant.binders.as_slice();
     let mut args = 0;
     let mut steps = 0;
@@ -32,20 +32,24 @@ fn length_of(file: &SmallFile, table: &Table, lengths: &[Length], family: u32) -
         steps = capped_sum(steps, entry.script);
     }
     let name = choice.constant.name.as_bytes();
-    let rule = rule_name(file, choice.rule);
+    let rule = rule_name(program, choice.rule);
     length_by(name, rule, !binders.is_empty(), args, steps)
 }
 
 /// The lengths for all closed families, in the order in which they were closed. Its time is linear in
-/// the size of the file.
-pub fn lengths_of(alloc: Global, file: &SmallFile, table: &Table) -> Result<Vec<Length>, NoMemory>
-    requires { IsTable file.now table.now }
+/// the size of the program.
+pub fn lengths_of(
+    alloc: Global,
+    program: &SmallProgram,
+    table: &Table,
+) -> Result<Vec<Length>, NoMemory>
+    requires { IsTable program.now table.now }
     ensures size { IfOk result (λ lengths. length lengths.items ≡ length table.now.order) }
-    ensures lengths { IfOk result (λ lengths. AreLengths file.now table.now lengths.items) }
+    ensures lengths { IfOk result (λ lengths. AreLengths program.now table.now lengths.items) }
 {
     let mut lengths = Vec::new(alloc);
     for family in table.order() {
-        let entry = length_of(file, table, lengths.as_slice(), *family);
+        let entry = length_of(program, table, lengths.as_slice(), *family);
         lengths.push(entry)?;
     }
     Ok(lengths)

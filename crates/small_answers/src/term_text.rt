@@ -9,17 +9,17 @@ ghost use Rattle.small_answers.specs.Additions.{AddsTerm};
 
 use crate::choices::choice_of;
 use lf_terms::{Bytes, NoMemory};
-use small_files::SmallFile;
+use small_programs::SmallProgram;
 use small_search::Table;
 
 /// Whether the term of a closed family has arguments.
-fn has_premises(file: &SmallFile, table: &Table, family: u32) -> bool
-    requires table { IsTable file.now table.now }
+fn has_premises(program: &SmallProgram, table: &Table, family: u32) -> bool
+    requires table { IsTable program.now table.now }
     requires closed { IsSome (closing_of table.now.by_family family) }
     ensures { (numbers : List ℕ) (term : LfTerm)
-        → GivesTerm file.now table.now.by_family family numbers term → result ≡ has_args term }
+        → GivesTerm program.now table.now.by_family family numbers term → result ≡ has_args term }
 {
-    let choice = choice_of(file, table, family);
+    let choice = choice_of(program, table, family);
     choice.constant.binders.len() > 0
 }
 
@@ -41,20 +41,20 @@ fn ending(is_nested: bool) -> &'static [u8]
 /// text, and it recurses over the depth of the term alone.
 pub fn append_term(
     out: &mut Bytes,
-    file: &SmallFile,
+    program: &SmallProgram,
     table: &Table,
     family: u32,
 ) -> Result<(), NoMemory>
-    requires table { IsTable file.now table.now }
+    requires table { IsTable program.now table.now }
     requires closed { IsSome (closing_of table.now.by_family family) }
-    ensures { OnOk result (AddsTerm file.now table.now.by_family family out.old out.new) }
+    ensures { OnOk result (AddsTerm program.now table.now.by_family family out.old out.new) }
 {
-    let choice = choice_of(file, table, family);
+    let choice = choice_of(program, table, family);
     out.append(choice.constant.name.as_bytes())?;
     for binder in choice.constant.binders.as_slice() {
-        let is_nested = has_premises(file, table, *binder);
+        let is_nested = has_premises(program, table, *binder);
         out.append(opening(is_nested))?;
-        append_term(out, file, table, *binder)?;
+        append_term(out, program, table, *binder)?;
         out.append(ending(is_nested))?;
     }
     Ok(())

@@ -7,7 +7,7 @@ ghost use Rattle.small_answers.specs.Copies.{AreTerms, IsGiven};
 use crate::choices::choice_of;
 use lf_terms::term::copy;
 use lf_terms::{Head, NoMemory, Term, Terms};
-use small_files::SmallFile;
+use small_programs::SmallProgram;
 use small_search::Table;
 use std::alloc::Global;
 
@@ -15,17 +15,17 @@ use std::alloc::Global;
 /// of them.
 fn next_term(
     alloc: Global,
-    file: &SmallFile,
+    program: &SmallProgram,
     table: &Table,
     terms: &[Term],
     family: u32,
 ) -> Result<Term, NoMemory>
-    requires table { IsTable file.now table.now }
+    requires table { IsTable program.now table.now }
     requires family { IsClosedAt table.now.by_family (length terms.now) family }
-    requires before { AreTerms file.now table.now terms.now }
-    ensures { IfOk result (IsGiven file.now table.now.by_family family) }
+    requires before { AreTerms program.now table.now terms.now }
+    ensures { IfOk result (IsGiven program.now table.now.by_family family) }
 {
-    let choice = choice_of(file, table, family);
+    let choice = choice_of(program, table, family);
     let mut args = Vec::new(alloc);
     for binder in choice.constant.binders.as_slice() {
         let Some(rank) = table.rank(*binder) else {
@@ -38,15 +38,15 @@ fn next_term(
 }
 
 /// The terms of all closed families, in the order in which they were closed. Its time and its memory
-/// are linear in the size of the file, since the terms share what they have in common.
-pub fn terms_of(alloc: Global, file: &SmallFile, table: &Table) -> Result<Vec<Term>, NoMemory>
-    requires { IsTable file.now table.now }
+/// are linear in the size of the program, since the terms share what they have in common.
+pub fn terms_of(alloc: Global, program: &SmallProgram, table: &Table) -> Result<Vec<Term>, NoMemory>
+    requires { IsTable program.now table.now }
     ensures size { IfOk result (λ terms. length terms.items ≡ length table.now.order) }
-    ensures terms { IfOk result (λ terms. AreTerms file.now table.now terms.items) }
+    ensures terms { IfOk result (λ terms. AreTerms program.now table.now terms.items) }
 {
     let mut terms = Vec::new(alloc);
     for family in table.order() {
-        let term = next_term(alloc, file, table, terms.as_slice(), *family)?;
+        let term = next_term(alloc, program, table, terms.as_slice(), *family)?;
         terms.push(term)?;
     }
     Ok(terms)

@@ -4,14 +4,14 @@ use Rattle.std.proofs.lemmas.Bool.{cases_eq, cases_lt}
 use Rattle.std.proofs.lemmas.List.{get_or_append_left, get_or_push, length_push, length-set, get_or_default, get_or_past}
 use Rattle.std.proofs.lemmas.List.Sums.{sum_by-set}
 use Rattle.std.proofs.lemmas.Option.{MatchOption-from_none, same_Some}
-use Rattle.small_files.specs.declared.small.SmallFile.{SmallFile}
+use Rattle.small_programs.specs.declared.small.SmallProgram.{SmallProgram}
 use Rattle.small_search.specs.declared.closing.Closing.{Closing}
 use Rattle.small_search.specs.Derivations.{IsChoice}
 use Rattle.small_search.specs.Closings.{closing_of, IsClosing, IsClosings, IsClosedBelow, IsClosedAt}
 use Rattle.small_search.specs.Progress.{Closes}
 use Rattle.small_search.proofs.Options.{some_from_IsSome}
 
-module _ (file : SmallFile) (closings : List (Option Closing)) (order : List ℕ) (family rule : ℕ) (table : IsClosings file closings order) (is_open : closing_of closings family ≡ None) (known : family < length closings) where
+module _ (program : SmallProgram) (closings : List (Option Closing)) (order : List ℕ) (family rule : ℕ) (table : IsClosings program closings order) (is_open : closing_of closings family ≡ None) (known : family < length closings) where
   abbrev closing : Closing
   closing = record { rule = rule; rank = length order }
 
@@ -56,7 +56,7 @@ module _ (file : SmallFile) (closings : List (Option Closing)) (order : List ℕ
   still : (rank f : ℕ) → IsClosedBelow closings rank f → IsClosedBelow after rank f
   still rank f b = record { closing = b.closing; closes = kept f b.closing b.closes; below = b.below }
 
-  still_closing : (f : ℕ) (c : Closing) → IsClosing file closings f c → IsClosing file after f c
+  still_closing : (f : ℕ) (c : Closing) → IsClosing program closings f c → IsClosing program after f c
   still_closing f c by = record { left = by.left; choice = by.choice; earlier = λ k d h. still c.rank _ (by.earlier k d h) }
 
   still_at : (rank : ℕ) → rank < length order → IsClosedAt after rank (slice_index (order ++ family ∷ []) rank)
@@ -75,12 +75,12 @@ module _ (file : SmallFile) (closings : List (Option Closing)) (order : List ℕ
       omega (arith, changed, none, table.count, length_push order family)
 
   -- a rule that leaves closed families closes an open one
-  pub IsClosings-set : (left : List ℕ) → IsChoice file family rule left → ((k : ℕ) → k < length left → IsSome (closing_of closings (slice_index left k))) → IsClosings file after (order ++ family ∷ [])
+  pub IsClosings-set : (left : List ℕ) → IsChoice program family rule left → ((k : ℕ) → k < length left → IsSome (closing_of closings (slice_index left k))) → IsClosings program after (order ++ family ∷ [])
   IsClosings-set left choice all = record {
     size = length-set closings family (Some closing) ∙ table.size;
     count = counted;
     closed = λ f c e. elim (which f c e) [
-      | inl new ↦ subst (λ x. IsClosing file after x c) (sym new.0) (subst (IsClosing file after family) (sym new.1) (record { left = left; choice = choice; earlier = earlier left all }))
+      | inl new ↦ subst (λ x. IsClosing program after x c) (sym new.0) (subst (IsClosing program after family) (sym new.1) (record { left = left; choice = choice; earlier = earlier left all }))
       | inr old ↦ still_closing f c (table.closed f c old)
     ];
     ordered = λ rank h. elim (cases_eq rank (length order)) [

@@ -1,9 +1,9 @@
 -- Each derivation gives terms, and gives them in one way.
 use Rattle.std.proofs.Common.{◌≡◌, ℕ, zero, suc, ◌+◌, ◌≤◌, List, ◌++◌, length, Some, slice_get, refl, sym, subst, ap, ◌∙◌, arith, append_assoc, length-append}
 use Rattle.lf_definitions.specs.Syntax.{at, constant, Spine, no_args, arg, args_count, joined}
-use Rattle.small_files.specs.declared.small.SmallFile.{SmallFile}
-use Rattle.small_files.specs.declared.small.SmallConst.{SmallConst}
-use Rattle.small_files.specs.declared.small.SmallRule.{SmallRule}
+use Rattle.small_programs.specs.declared.small.SmallProgram.{SmallProgram}
+use Rattle.small_programs.specs.declared.small.SmallConst.{SmallConst}
+use Rattle.small_programs.specs.declared.small.SmallRule.{SmallRule}
 use Rattle.small_search.specs.Derivations.{IsRule, Derivation, closed, step}
 use Rattle.small_search.specs.DerivationTerms.{HasTerms, no_terms, one_term}
 
@@ -45,57 +45,57 @@ joined_same (arg t ts) b (arg u us) d n e =
 -- ---- rules
 
 -- a number is that of one rule, with one constant
-pub IsRule-one : (file : SmallFile) (number : ℕ) (r s : SmallRule) (c d : SmallConst) → IsRule file number r c → IsRule file number s d → (r ≡ s) × (c ≡ d)
-IsRule-one file number r s c d p q =
+pub IsRule-one : (program : SmallProgram) (number : ℕ) (r s : SmallRule) (c d : SmallConst) → IsRule program number r c → IsRule program number s d → (r ≡ s) × (c ≡ d)
+IsRule-one program number r s c d p q =
     let place : p.place ≡ q.place = omega (arith, p.number_is, q.number_is) in
-    let rules : Some r ≡ Some s = sym p.rule_is ∙ ap (slice_get file.rules) place ∙ q.rule_is in
+    let rules : Some r ≡ Some s = sym p.rule_is ∙ ap (slice_get program.rules) place ∙ q.rule_is in
     let rule : r ≡ s = cc in
-    let constants : Some c ≡ Some d = sym p.constant_is ∙ ap (λ (x : SmallRule). slice_get file.constants x.constant) rule ∙ q.constant_is in
+    let constants : Some c ≡ Some d = sym p.constant_is ∙ ap (λ (x : SmallRule). slice_get program.constants x.constant) rule ∙ q.constant_is in
     (rule, cc)
 
 -- ---- terms of derivations
 
-pub HasTerms-count : (file : SmallFile) (goals numbers : List ℕ) (terms : Spine) → HasTerms file goals numbers terms → args_count terms ≡ length goals
-HasTerms-count file goals numbers terms no_terms = refl
-HasTerms-count file all numbers terms (one_term goal number rule declared goals after more args rest both is family leaves below parts size) =
-    omega (arith, HasTerms-count file after more both below, ap args_count parts, args_count-joined args rest, size, ap length leaves, length-append declared.binders goals)
+pub HasTerms-count : (program : SmallProgram) (goals numbers : List ℕ) (terms : Spine) → HasTerms program goals numbers terms → args_count terms ≡ length goals
+HasTerms-count program goals numbers terms no_terms = refl
+HasTerms-count program all numbers terms (one_term goal number rule declared goals after more args rest both is family leaves below parts size) =
+    omega (arith, HasTerms-count program after more both below, ap args_count parts, args_count-joined args rest, size, ap length leaves, length-append declared.binders goals)
 
 -- what has terms is a derivation
-pub Derivation-terms : (file : SmallFile) (goals numbers : List ℕ) (terms : Spine) → HasTerms file goals numbers terms → Derivation file goals numbers
-Derivation-terms file goals numbers terms no_terms = closed
-Derivation-terms file all numbers terms (one_term goal number rule declared goals after more args rest both is family leaves below parts size) =
+pub Derivation-terms : (program : SmallProgram) (goals numbers : List ℕ) (terms : Spine) → HasTerms program goals numbers terms → Derivation program goals numbers
+Derivation-terms program goals numbers terms no_terms = closed
+Derivation-terms program all numbers terms (one_term goal number rule declared goals after more args rest both is family leaves below parts size) =
     step goal number declared.binders goals after more (record { rule = rule; constant = declared; is_rule = is; family = family; leaves = refl }) leaves
-    (Derivation-terms file after more both below)
+    (Derivation-terms program after more both below)
 
 -- a derivation has terms
-pub HasTerms-derivation : (file : SmallFile) (goals numbers : List ℕ) → Derivation file goals numbers → (terms : Spine) × HasTerms file goals numbers terms
-HasTerms-derivation file goals numbers closed = (no_args, no_terms)
-HasTerms-derivation file all numbers (step goal number left goals after more choice leaves d) =
-    let below = HasTerms-derivation file after more d in
+pub HasTerms-derivation : (program : SmallProgram) (goals numbers : List ℕ) → Derivation program goals numbers → (terms : Spine) × HasTerms program goals numbers terms
+HasTerms-derivation program goals numbers closed = (no_args, no_terms)
+HasTerms-derivation program all numbers (step goal number left goals after more choice leaves d) =
+    let below = HasTerms-derivation program after more d in
     let parts : after ≡ choice.constant.binders ++ goals = leaves ∙ ap (λ (xs : List ℕ). xs ++ goals) (sym choice.leaves) in
-    let cut = cut_at below.0 (length choice.constant.binders) (omega (arith, HasTerms-count file after more below.0 below.1, ap length parts, length-append choice.constant.binders goals)) in (
+    let cut = cut_at below.0 (length choice.constant.binders) (omega (arith, HasTerms-count program after more below.0 below.1, ap length parts, length-append choice.constant.binders goals)) in (
       arg (at (constant choice.rule.constant) cut.first) cut.rest,
       one_term goal number choice.rule choice.constant goals after more cut.first cut.rest below.0 choice.is_rule choice.family parts below.1 cut.parts cut.size,
     )
 
 -- the terms are one
-pub HasTerms-one : (file : SmallFile) (goals numbers : List ℕ) (terms others : Spine) → HasTerms file goals numbers terms → HasTerms file goals numbers others → terms ≡ others
-HasTerms-one file goals numbers terms others no_terms no_terms = refl
-HasTerms-one file all numbers terms others (one_term goal number rule declared goals after more args rest both is family leaves below parts size) (one_term goal' number' rule' declared' goals' after' more' args' rest' both' is' family' leaves' below' parts' size') =
-    let one = IsRule-one file number rule rule' declared declared' is is' in
+pub HasTerms-one : (program : SmallProgram) (goals numbers : List ℕ) (terms others : Spine) → HasTerms program goals numbers terms → HasTerms program goals numbers others → terms ≡ others
+HasTerms-one program goals numbers terms others no_terms no_terms = refl
+HasTerms-one program all numbers terms others (one_term goal number rule declared goals after more args rest both is family leaves below parts size) (one_term goal' number' rule' declared' goals' after' more' args' rest' both' is' family' leaves' below' parts' size') =
+    let one = IsRule-one program number rule rule' declared declared' is is' in
     let binders : declared.binders ≡ declared'.binders = ap (λ (x : SmallConst). x.binders) one.1 in
     let same_after : after' ≡ after = leaves' ∙ ap (λ (xs : List ℕ). xs ++ goals) (sym binders) ∙ sym leaves in
-    let same : both ≡ both' = HasTerms-one file after more both both' below (subst (λ (xs : List ℕ). HasTerms file xs more both') same_after below') in
+    let same : both ≡ both' = HasTerms-one program after more both both' below (subst (λ (xs : List ℕ). HasTerms program xs more both') same_after below') in
     let cut = joined_same args rest args' rest' (size ∙ ap length binders ∙ sym size') (sym parts ∙ same ∙ parts') in
     ap (λ (x : SmallRule). arg (at (constant x.constant) args) rest) one.0
     ∙ ap (λ (x : Spine). arg (at (constant rule'.constant) x) rest) cut.0
     ∙ ap (arg (at (constant rule'.constant) args')) cut.1
 
 -- terms of two lists of goals, one after the other, are those of both
-pub HasTerms-join : (file : SmallFile) (xs ys ms ns : List ℕ) (a b : Spine) → HasTerms file xs ms a → HasTerms file ys ns b → HasTerms file (xs ++ ys) (ms ++ ns) (joined a b)
-HasTerms-join file xs ys ms ns a b no_terms more = more
-HasTerms-join file xs ys ms ns a b (one_term goal number rule declared goals after numbers args rest both is family leaves below parts size) more =
+pub HasTerms-join : (program : SmallProgram) (xs ys ms ns : List ℕ) (a b : Spine) → HasTerms program xs ms a → HasTerms program ys ns b → HasTerms program (xs ++ ys) (ms ++ ns) (joined a b)
+HasTerms-join program xs ys ms ns a b no_terms more = more
+HasTerms-join program xs ys ms ns a b (one_term goal number rule declared goals after numbers args rest both is family leaves below parts size) more =
     one_term goal number rule declared (goals ++ ys) (after ++ ys) (numbers ++ ns) args (joined rest b) (joined both b) is family
     (ap (λ (zs : List ℕ). zs ++ ys) leaves ∙ append_assoc declared.binders goals ys)
-    (HasTerms-join file after ys numbers ns both b below more)
+    (HasTerms-join program after ys numbers ns both b below more)
     (ap (λ (s : Spine). joined s b) parts ∙ joined-assoc args rest b) size

@@ -2,7 +2,7 @@
 use Rattle.std.proofs.Common.{◌≡◌, ℕ, ◌+◌, ◌<◌, List, length, Option, Some, None, IsSome, slice_get, set, sym, subst, ap, ◌∙◌, arith, inl, inr, get_or-set_same, get_or-set_other}
 use Rattle.std.proofs.lemmas.Bool.{cases_eq}
 use Rattle.std.proofs.lemmas.Option.{same_Some}
-use Rattle.small_files.specs.declared.small.SmallRule.{SmallRule}
+use Rattle.small_programs.specs.declared.small.SmallRule.{SmallRule}
 use Rattle.small_search.specs.RulesOf.{rule_of, IsRuleOf, IsRulesOf}
 use Rattle.small_search.proofs.Options.{IsSome-from_some}
 

@@ -2,8 +2,8 @@
 use Rattle.std.proofs.Common.{◌≡◌, ℕ, ◌+◌, ◌<◌, ◌≤◌, ◌⊎◌, List, length, Option, Some, None, IsSome, IfSome, slice_get, slice_index, slice_index_or, refl, sym, subst, ap, ◌∙◌, arith, inl, inr}
 use Rattle.std.proofs.lemmas.Bool.{cases_eq}
 use Rattle.std.proofs.lemmas.Option.{IfSome_then, MatchOption-at_some, MatchOption-from_none}
-use Rattle.small_files.specs.declared.small.SmallFile.{SmallFile}
-use Rattle.small_files.specs.declared.small.SmallConst.{SmallConst}
+use Rattle.small_programs.specs.declared.small.SmallProgram.{SmallProgram}
+use Rattle.small_programs.specs.declared.small.SmallConst.{SmallConst}
 use Rattle.small_search.specs.declared.closing.Closing.{Closing}
 use Rattle.small_search.specs.declared.waiting.Link.{Link}
 use Rattle.small_search.specs.declared.waiting.Waiting.{Waiting}
@@ -16,14 +16,14 @@ use Rattle.small_search.proofs.Options.{none_or_some, some_from_IsSome, IsSome-f
 use Rattle.small_search.proofs.Ways.{IsAlong-none, IsAlong-cases}
 
 -- a rule for a constant is a choice for its family
-pub IsChoice-from_rule : (file : SmallFile) (rules : List (Option ℕ)) (number : ℕ) (constant : SmallConst) (rule : ℕ) → IsRulesOf file.rules (length file.rules) rules →
-    slice_get file.constants number ≡ Some constant → rule_of rules number ≡ Some rule → IsChoice file constant.family rule constant.binders
-IsChoice-from_rule file rules number constant rule known is e =
+pub IsChoice-from_rule : (program : SmallProgram) (rules : List (Option ℕ)) (number : ℕ) (constant : SmallConst) (rule : ℕ) → IsRulesOf program.rules (length program.rules) rules →
+    slice_get program.constants number ≡ Some constant → rule_of rules number ≡ Some rule → IsChoice program constant.family rule constant.binders
+IsChoice-from_rule program rules number constant rule known is e =
     let r = known.sound number rule e in
     record {
       rule = r.rule;
       constant = constant;
-      is_rule = record { place = r.place; number_is = r.number_is; rule_is = r.rule_is; constant_is = ap (slice_get file.constants) r.constant_is ∙ is };
+      is_rule = record { place = r.place; number_is = r.number_is; rule_is = r.rule_is; constant_is = ap (slice_get program.constants) r.constant_is ∙ is };
       family = refl;
       leaves = refl;
     }
@@ -33,8 +33,8 @@ module _ (old new : List (Option Closing)) (count : ℕ) (closes : Closes old ne
   IsSome-closed family h = let some = some_from_IsSome _ h in IsSome-from_some _ some.0 (closes.kept family some.0 some.1)
 
   -- passed binders stay passed
-  pub IsReached-closed : (file : SmallFile) (reached : List ℕ) → IsReached file old reached → IsReached file new reached
-  IsReached-closed file reached h = record {
+  pub IsReached-closed : (program : SmallProgram) (reached : List ℕ) → IsReached program old reached → IsReached program new reached
+  IsReached-closed program reached h = record {
     size = h.size;
     passed = λ number constant is. let p = h.passed number constant is in record { within = p.within; closed = λ k lt. IsSome-closed _ (p.closed k lt) };
   }
@@ -58,22 +58,22 @@ IsSettled-advanced closings n constant (inl h) = inl h
 IsSettled-advanced closings n constant (inr held) = inr (record { place = held.place; within = held.within; pending = MatchOption-from_none _ (λ closing. n ≤ closing.rank) held.is_open })
 
 -- one more constant is advanced
-pub AllSettled-more : (file : SmallFile) (rules : List (Option ℕ)) (old new : List (Option Closing)) (count number : ℕ) → Closes old new count → AllSettled file rules old 0 number → IsAdvanced file rules new number →
-    AllSettled file rules new 0 (number + 1)
-AllSettled-more file rules old new count number closes settled advanced n constant h is has = elim (cases_eq n number) [
-  | inl same ↦ IsSettled-advanced new 0 constant (advanced constant (ap (slice_get file.constants) (sym same) ∙ is) (subst (λ x. IsSome (rule_of rules x)) same has))
+pub AllSettled-more : (program : SmallProgram) (rules : List (Option ℕ)) (old new : List (Option Closing)) (count number : ℕ) → Closes old new count → AllSettled program rules old 0 number → IsAdvanced program rules new number →
+    AllSettled program rules new 0 (number + 1)
+AllSettled-more program rules old new count number closes settled advanced n constant h is has = elim (cases_eq n number) [
+  | inl same ↦ IsSettled-advanced new 0 constant (advanced constant (ap (slice_get program.constants) (sym same) ∙ is) (subst (λ x. IsSome (rule_of rules x)) same has))
   | inr ne ↦ IsSettled-closed old new count closes 0 constant (omega arith) (settled n constant (omega arith) is has)
 ]
 
 -- Each constant that has a rule is settled, or met on the way from here.
-abbrev pub AllWoken : SmallFile → List (Option ℕ) → List (Option Closing) → ℕ → List Link → Option ℕ → Type 0
-AllWoken file rules closings count links at =
-    (number : ℕ) (constant : SmallConst) → number < length file.constants → slice_get file.constants number ≡ Some constant → IsSome (rule_of rules number) →
+abbrev pub AllWoken : SmallProgram → List (Option ℕ) → List (Option Closing) → ℕ → List Link → Option ℕ → Type 0
+AllWoken program rules closings count links at =
+    (number : ℕ) (constant : SmallConst) → number < length program.constants → slice_get program.constants number ≡ Some constant → IsSome (rule_of rules number) →
     IsSettled closings count constant ⊎ IsAlong links at number
 
-module _ (file : SmallFile) (rules : List (Option ℕ)) (waiting : Waiting) (rank : ℕ) where
-  held_by : (closings : List (Option Closing)) (order : List ℕ) → IsClosings file closings order → IsComplete file (length file.constants) waiting → (number : ℕ) (constant : SmallConst) → number < length file.constants →
-      slice_get file.constants number ≡ Some constant → (closing : Closing) → (held : IsHeldUp closings rank constant.binders) →
+module _ (program : SmallProgram) (rules : List (Option ℕ)) (waiting : Waiting) (rank : ℕ) where
+  held_by : (closings : List (Option Closing)) (order : List ℕ) → IsClosings program closings order → IsComplete program (length program.constants) waiting → (number : ℕ) (constant : SmallConst) → number < length program.constants →
+      slice_get program.constants number ≡ Some constant → (closing : Closing) → (held : IsHeldUp closings rank constant.binders) →
       closing_of closings (slice_index constant.binders held.place) ≡ Some closing → IsSettled closings (rank + 1) constant ⊎ IsAlong waiting.links.items (slice_index_or waiting.first.items (slice_index order rank) None) number
   held_by closings order table complete number constant h is closing held e =
       let late : rank ≤ closing.rank = MatchOption-at_some _ (λ (c : Closing). rank ≤ c.rank) closing e held.pending in
@@ -85,8 +85,8 @@ module _ (file : SmallFile) (rules : List (Option ℕ)) (waiting : Waiting) (ran
       ]
 
   -- what the closed family of this rank holds up waits for it
-  pub AllWoken-start : (closings : List (Option Closing)) (order : List ℕ) → IsClosings file closings order → IsComplete file (length file.constants) waiting → AllSettled file rules closings rank (length file.constants) →
-      AllWoken file rules closings (rank + 1) waiting.links.items (slice_index_or waiting.first.items (slice_index order rank) None)
+  pub AllWoken-start : (closings : List (Option Closing)) (order : List ℕ) → IsClosings program closings order → IsComplete program (length program.constants) waiting → AllSettled program rules closings rank (length program.constants) →
+      AllWoken program rules closings (rank + 1) waiting.links.items (slice_index_or waiting.first.items (slice_index order rank) None)
   AllWoken-start closings order table complete settled number constant h is has = elim (settled number constant h is has) [
     | inl is_closed ↦ inl (inl is_closed)
     | inr held ↦ elim (none_or_some (closing_of closings (slice_index constant.binders held.place))) [
@@ -96,18 +96,18 @@ module _ (file : SmallFile) (rules : List (Option ℕ)) (waiting : Waiting) (ran
   ]
 
   -- the next link's constant is advanced
-  pub AllWoken-more : (old new : List (Option Closing)) (count place : ℕ) (link : Link) → rank + 1 ≤ count → Closes old new count → slice_get waiting.links.items place ≡ Some link → IsAdvanced file rules new link.constant →
-      AllWoken file rules old (rank + 1) waiting.links.items (Some place) → AllWoken file rules new (rank + 1) waiting.links.items link.next
+  pub AllWoken-more : (old new : List (Option Closing)) (count place : ℕ) (link : Link) → rank + 1 ≤ count → Closes old new count → slice_get waiting.links.items place ≡ Some link → IsAdvanced program rules new link.constant →
+      AllWoken program rules old (rank + 1) waiting.links.items (Some place) → AllWoken program rules new (rank + 1) waiting.links.items link.next
   AllWoken-more old new count place link le closes link_is advanced woken number constant h is has = elim (woken number constant h is has) [
     | inl settled ↦ inl (IsSettled-closed old new count closes (rank + 1) constant le settled)
     | inr way ↦ elim (IsAlong-cases waiting.links.items place number link link_is way) [
-      | inl same ↦ inl (IsSettled-advanced new (rank + 1) constant (advanced constant (ap (slice_get file.constants) same ∙ is) (subst (λ x. IsSome (rule_of rules x)) (sym same) has)))
+      | inl same ↦ inl (IsSettled-advanced new (rank + 1) constant (advanced constant (ap (slice_get program.constants) same ∙ is) (subst (λ x. IsSome (rule_of rules x)) (sym same) has)))
       | inr rest ↦ inr rest
     ]
   ]
 
   -- at the end of the way all are settled
-  pub AllWoken-end : (closings : List (Option Closing)) → AllWoken file rules closings (rank + 1) waiting.links.items None → AllSettled file rules closings (rank + 1) (length file.constants)
+  pub AllWoken-end : (closings : List (Option Closing)) → AllWoken program rules closings (rank + 1) waiting.links.items None → AllSettled program rules closings (rank + 1) (length program.constants)
   AllWoken-end closings woken number constant h is has = elim (woken number constant h is has) [
     | inl settled ↦ settled
     | inr way ↦ absurd (IsAlong-none waiting.links.items number way)

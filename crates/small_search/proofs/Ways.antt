@@ -3,7 +3,7 @@ use Rattle.std.proofs.Common.{◌≡◌, ◌≢◌, ℕ, ◌+◌, ◌<◌, ◌�
 use Rattle.std.proofs.lemmas.Bool.{cases_eq}
 use Rattle.std.proofs.lemmas.List.{length_push, length-set}
 use Rattle.std.proofs.lemmas.Option.{IfSome_then}
-use Rattle.small_files.specs.declared.small.SmallFile.{SmallFile}
+use Rattle.small_programs.specs.declared.small.SmallProgram.{SmallProgram}
 use Rattle.small_search.specs.declared.waiting.Link.{Link}
 use Rattle.small_search.specs.declared.waiting.Waiting.{Waiting}
 use Rattle.small_search.specs.Waits.{IsAlong, here, later, WaitsFor, IsLink, IsWaiting, KeepsWaiting}
@@ -23,7 +23,7 @@ pub IsAlong-cases : (links : List Link) (place constant : ℕ) (link : Link) →
 IsAlong-cases links place constant link e (here p c l is same) = let one : l ≡ link = cc in inl (ap (λ (x : Link). x.constant) (sym one) ∙ same)
 IsAlong-cases links place constant link e (later p c l is way) = let one : l ≡ link = cc in inr (subst (λ (x : Link). IsAlong links x.next c) one way)
 
-module _ (file : SmallFile) (old new : Waiting) (family constant : ℕ) (waiting : IsWaiting file old) (known : family < length old.first.items) (is_constant : constant < length file.constants)
+module _ (program : SmallProgram) (old new : Waiting) (family constant : ℕ) (waiting : IsWaiting program old) (known : family < length old.first.items) (is_constant : constant < length program.constants)
     (first_is : new.first.items ≡ set old.first.items family (Some (length old.links.items)))
     (links_are : new.links.items ≡ old.links.items ++ record { constant = constant; next = slice_index_or old.first.items family None } ∷ []) where
   abbrev link : Link
@@ -62,11 +62,11 @@ module _ (file : SmallFile) (old new : Waiting) (family constant : ℕ) (waiting
     | inr ne ↦ subst (λ (from : Option ℕ). IfSome from (λ place. place < length new.links.items)) (sym (first_other f ne)) (IfSome_then (slice_index_or old.first.items f None) {P = λ place. place < length old.links.items} {Q = λ place. place < length new.links.items} (waiting.first f) (λ place h. omega (arith, longer, h)))
   ]
 
-  is_link : (place : ℕ) (l : Link) → slice_get new.links.items place ≡ Some l → IsLink file place l
+  is_link : (place : ℕ) (l : Link) → slice_get new.links.items place ≡ Some l → IsLink program place l
   is_link place l e = elim (slice_get-push_cases old.links.items link place l (ap (λ links. slice_get links place) (sym links_are) ∙ e)) [
     | inl before ↦ waiting.links place l before
-    | inr last ↦ subst (λ p. IsLink file p l) (sym last.0) (subst (IsLink file (length old.links.items)) (sym last.1) (record { constant = is_constant; back = waiting.first family }))
+    | inr last ↦ subst (λ p. IsLink program p l) (sym last.0) (subst (IsLink program (length old.links.items)) (sym last.1) (record { constant = is_constant; back = waiting.first family }))
   ]
 
-  pub IsWaiting-added : IsWaiting file new
+  pub IsWaiting-added : IsWaiting program new
   IsWaiting-added = record { size = ap length first_is ∙ length-set old.first.items family (Some (length old.links.items)) ∙ waiting.size; first = first_in; links = is_link }

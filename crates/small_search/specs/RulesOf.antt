@@ -1,6 +1,6 @@
 -- A rule for each constant that has one.
 use Rattle.std.specs.Prelude.{◌≡◌, ℕ, ◌+◌, ◌<◌, List, Option, Some, None, IsSome, slice_get, slice_index_or}
-use Rattle.small_files.specs.declared.small.SmallRule.{SmallRule}
+use Rattle.small_programs.specs.declared.small.SmallRule.{SmallRule}
 
 abbrev pub rule_of : List (Option ℕ) → ℕ → Option ℕ
 rule_of numbers constant = slice_index_or numbers constant None

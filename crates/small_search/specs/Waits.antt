@@ -1,7 +1,7 @@
 -- Which constants wait for a family: linked lists over one list of links.
 use Rattle.std.specs.Prelude.{◌≡◌, ℕ, ◌<◌, List, length, Option, Some, None, IfSome, slice_get, slice_index, slice_index_or}
-use Rattle.small_files.specs.declared.small.SmallFile.{SmallFile}
-use Rattle.small_files.specs.declared.small.SmallConst.{SmallConst}
+use Rattle.small_programs.specs.declared.small.SmallProgram.{SmallProgram}
+use Rattle.small_programs.specs.declared.small.SmallConst.{SmallConst}
 use Rattle.small_search.specs.declared.waiting.Link.{Link}
 use Rattle.small_search.specs.declared.waiting.Waiting.{Waiting}
 
@@ -14,29 +14,29 @@ pub data IsAlong (links : List Link) : Option ℕ → ℕ → Type 0 where
 abbrev pub WaitsFor : Waiting → ℕ → ℕ → Type 0
 WaitsFor waiting family constant = IsAlong waiting.links.items (slice_index_or waiting.first.items family None) constant
 
--- The link is of a constant of the file, and leads back.
-pub record IsLink (file : SmallFile) (place : ℕ) (link : Link) : Type 0 where
-  pub constant : link.constant < length file.constants
+-- The link is of a constant of the program, and leads back.
+pub record IsLink (program : SmallProgram) (place : ℕ) (link : Link) : Type 0 where
+  pub constant : link.constant < length program.constants
   pub back : IfSome link.next (λ next. next < place)
 
 -- Each family has its way, and every way leads back to its end.
-pub record IsWaiting (file : SmallFile) (waiting : Waiting) : Type 0 where
-  pub size : length waiting.first.items ≡ length file.families
+pub record IsWaiting (program : SmallProgram) (waiting : Waiting) : Type 0 where
+  pub size : length waiting.first.items ≡ program.families
   pub first : (family : ℕ) → IfSome (slice_index_or waiting.first.items family None) (λ place. place < length waiting.links.items)
-  pub links : (place : ℕ) (link : Link) → slice_get waiting.links.items place ≡ Some link → IsLink file place link
+  pub links : (place : ℕ) (link : Link) → slice_get waiting.links.items place ≡ Some link → IsLink program place link
 
 -- The constant waits for each family of the list.
 abbrev pub WaitsForAll : Waiting → List ℕ → ℕ → ℕ → Type 0
 WaitsForAll waiting families count constant = (k : ℕ) → k < count → WaitsFor waiting (slice_index families k) constant
 
 -- The constant of this number waits for each family of its binders.
-abbrev pub WaitsForBinders : SmallFile → Waiting → ℕ → Type 0
-WaitsForBinders file waiting number =
-    (constant : SmallConst) → slice_get file.constants number ≡ Some constant → WaitsForAll waiting constant.binders (length constant.binders) number
+abbrev pub WaitsForBinders : SmallProgram → Waiting → ℕ → Type 0
+WaitsForBinders program waiting number =
+    (constant : SmallConst) → slice_get program.constants number ≡ Some constant → WaitsForAll waiting constant.binders (length constant.binders) number
 
--- Each of the file's first constants, this many, waits for each family of its binders.
-abbrev pub IsComplete : SmallFile → ℕ → Waiting → Type 0
-IsComplete file count waiting = (number : ℕ) → number < count → WaitsForBinders file waiting number
+-- Each of the program's first constants, this many, waits for each family of its binders.
+abbrev pub IsComplete : SmallProgram → ℕ → Waiting → Type 0
+IsComplete program count waiting = (number : ℕ) → number < count → WaitsForBinders program waiting number
 
 -- What waited still waits.
 abbrev pub KeepsWaiting : Waiting → Waiting → Type 0

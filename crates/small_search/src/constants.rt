@@ -1,13 +1,13 @@
-//! The constants of a small file.
+//! The constants of a small program.
 
 ghost use Rattle.std.specs.Prelude.{◌≡◌, ◌<◌, length, Some, slice_get};
 
-use small_files::{SmallConst, SmallFile};
+use small_programs::{SmallConst, SmallProgram};
 
 /// The constant of a number.
-pub fn constant_at(file: &SmallFile, number: u32) -> &SmallConst
-    requires { number < length file.now.constants }
-    ensures { slice_get file.now.constants number ≡ Some result.now }
+pub fn constant_at(program: &SmallProgram, number: u32) -> &SmallConst
+    requires { number < length program.now.constants }
+    ensures { slice_get program.now.constants number ≡ Some result.now }
 {
-    &file.constants.as_slice()[number as usize]
+    &program.constants.as_slice()[number as usize]
 }

@@ -1,7 +1,7 @@
 //! The table while it is made.
 
 ghost use Rattle.std.specs.Prelude.{◌≡◌, ◌+◌, ◌++◌, ◌∷◌, [], ◌<◌, ◌≤◌, ℕ, false, length, Some, None, All, IfOk, OnOk, IsTrue, IsSome, slice_set, slice_index};
-ghost use Rattle.small_files.specs.SmallFiles.{IsNumbered};
+ghost use Rattle.small_programs.specs.SmallPrograms.{IsNumbered};
 ghost use Rattle.small_search.specs.Closings.{closing_of};
 ghost use Rattle.small_search.specs.Waits.{IsWaiting, IsComplete};
 ghost use Rattle.small_search.specs.Progress.{IsPrepared, IsDraft, IsPassedWhole, IsStopped, IsAdvanced, AllSettled, Closes, ClosesBy};
@@ -10,7 +10,7 @@ use crate::closing::Closing;
 use crate::constants::constant_at;
 use crate::waiting::Waiting;
 use lf_terms::NoMemory;
-use small_files::SmallFile;
+use small_programs::SmallProgram;
 use std::alloc::Global;
 
 /// The families that are closed so far, and for each constant how many of its first binders are
@@ -42,11 +42,11 @@ fn first_open(closings: &[Option<Closing>], families: &[u32], from: usize) -> us
 
 impl Draft {
     /// Nothing is closed yet.
-    pub fn new(alloc: Global, file: &SmallFile) -> Result<Draft, NoMemory>
-        ensures { IfOk result (λ draft. IsDraft file.now draft) }
+    pub fn new(alloc: Global, program: &SmallProgram) -> Result<Draft, NoMemory>
+        ensures { IfOk result (λ draft. IsDraft program.now draft) }
     {
-        let closings: Vec<Option<Closing>> = vec![in alloc; None; file.families.len()]?;
-        let reached: Vec<usize> = vec![in alloc; 0; file.constants.len()]?;
+        let closings: Vec<Option<Closing>> = vec![in alloc; None; program.families as usize]?;
+        let reached: Vec<usize> = vec![in alloc; 0; program.constants.len()]?;
         Ok(Draft {
             closings,
             order: Vec::new(alloc),
@@ -72,17 +72,17 @@ impl Draft {
     }
 
     /// Passes those binders of a constant that are closed by now, and answers whether all are.
-    fn pass(&mut self, file: &SmallFile, number: u32) -> bool
-        requires numbered { IsNumbered file.now }
-        requires known { number < length file.now.constants }
-        requires draft { IsDraft file.now self.old }
+    fn pass(&mut self, program: &SmallProgram, number: u32) -> bool
+        requires numbered { IsNumbered program.now }
+        requires known { number < length program.now.constants }
+        requires draft { IsDraft program.now self.old }
         ensures closings { self.new.closings.items ≡ self.old.closings.items }
         ensures order { self.new.order.items ≡ self.old.order.items }
-        ensures draft { IsDraft file.now self.new }
-        ensures whole { IsTrue result → IsPassedWhole file.now self.new.closings.items number }
-        ensures stopped { result ≡ false → IsStopped file.now self.new.closings.items number }
+        ensures draft { IsDraft program.now self.new }
+        ensures whole { IsTrue result → IsPassedWhole program.now self.new.closings.items number }
+        ensures stopped { result ≡ false → IsStopped program.now self.new.closings.items number }
     {
-        let constant = constant_at(file, number);
+        let constant = constant_at(program, number);
         let binders = constant.binders.as_slice();
         let from = self.reached[number as usize];
         let place = first_open(self.closings.as_slice(), binders, from);
@@ -93,23 +93,23 @@ impl Draft {
     /// Closes the family of a constant by a rule for it, if all its binders are closed by now.
     fn advance(
         &mut self,
-        file: &SmallFile,
+        program: &SmallProgram,
         rules: &[Option<u32>],
         number: u32,
     ) -> Result<(), NoMemory>
-        requires prepared { IsPrepared file.now rules.now }
-        requires known { number < length file.now.constants }
-        requires draft { IsDraft file.now self.old }
-        ensures draft { OnOk result (IsDraft file.now self.new) }
+        requires prepared { IsPrepared program.now rules.now }
+        requires known { number < length program.now.constants }
+        requires draft { IsDraft program.now self.old }
+        ensures draft { OnOk result (IsDraft program.now self.new) }
         ensures closes { OnOk result (Closes self.old.closings.items self.new.closings.items
             (length self.old.order.items)) }
         ensures longer { OnOk result (length self.old.order.items ≤ length self.new.order.items) }
-        ensures advanced { OnOk result (IsAdvanced file.now rules.now self.new.closings.items number) }
+        ensures advanced { OnOk result (IsAdvanced program.now rules.now self.new.closings.items number) }
     {
-        if !self.pass(file, number) {
+        if !self.pass(program, number) {
             return Ok(());
         }
-        let family = constant_at(file, number).family;
+        let family = constant_at(program, number).family;
         if self.closings[family as usize].is_some() {
             return Ok(());
         }
@@ -121,19 +121,19 @@ impl Draft {
     }
 
     /// Closes what no binder holds up.
-    pub fn begin(&mut self, file: &SmallFile, rules: &[Option<u32>]) -> Result<(), NoMemory>
-        requires prepared { IsPrepared file.now rules.now }
-        requires draft { IsDraft file.now self.old }
-        ensures draft { OnOk result (IsDraft file.now self.new) }
-        ensures settled { OnOk result (AllSettled file.now rules.now self.new.closings.items 0
-            (length file.now.constants)) }
+    pub fn begin(&mut self, program: &SmallProgram, rules: &[Option<u32>]) -> Result<(), NoMemory>
+        requires prepared { IsPrepared program.now rules.now }
+        requires draft { IsDraft program.now self.old }
+        ensures draft { OnOk result (IsDraft program.now self.new) }
+        ensures settled { OnOk result (AllSettled program.now rules.now self.new.closings.items 0
+            (length program.now.constants)) }
     {
-        let count = file.constants.len();
+        let count = program.constants.len();
         if count > u32::MAX as usize {
             return Err(NoMemory);
         }
         for number in 0..count {
-            self.advance(file, rules, number as u32)?;
+            self.advance(program, rules, number as u32)?;
         }
         Ok(())
     }
@@ -142,28 +142,28 @@ impl Draft {
     /// twice is woken twice, which does no harm.
     pub fn wake(
         &mut self,
-        file: &SmallFile,
+        program: &SmallProgram,
         rules: &[Option<u32>],
         waiting: &Waiting,
         rank: usize,
     ) -> Result<(), NoMemory>
-        requires prepared { IsPrepared file.now rules.now }
-        requires waiting { IsWaiting file.now waiting.now }
-        requires complete { IsComplete file.now (length file.now.constants) waiting.now }
-        requires draft { IsDraft file.now self.old }
+        requires prepared { IsPrepared program.now rules.now }
+        requires waiting { IsWaiting program.now waiting.now }
+        requires complete { IsComplete program.now (length program.now.constants) waiting.now }
+        requires draft { IsDraft program.now self.old }
         requires rank { rank < length self.old.order.items }
-        requires settled { AllSettled file.now rules.now self.old.closings.items rank
-            (length file.now.constants) }
-        ensures draft { OnOk result (IsDraft file.now self.new) }
+        requires settled { AllSettled program.now rules.now self.old.closings.items rank
+            (length program.now.constants) }
+        ensures draft { OnOk result (IsDraft program.now self.new) }
         ensures longer { OnOk result (length self.old.order.items ≤ length self.new.order.items) }
-        ensures settled { OnOk result (AllSettled file.now rules.now self.new.closings.items (rank + 1)
-            (length file.now.constants)) }
+        ensures settled { OnOk result (AllSettled program.now rules.now self.new.closings.items (rank + 1)
+            (length program.now.constants)) }
     {
         let family = self.order[rank] as usize;
         let mut at = waiting.first[family];
         while let Some(place) = at {
             let link = waiting.links[place as usize];
-            self.advance(file, rules, link.constant)?;
+            self.advance(program, rules, link.constant)?;
             at = link.next;
         }
         Ok(())

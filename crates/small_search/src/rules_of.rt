@@ -4,7 +4,7 @@ ghost use Rattle.std.specs.Prelude.{◌≡◌, ◌<◌, length, All, IfOk};
 ghost use Rattle.small_search.specs.RulesOf.{IsRulesOf};
 
 use lf_terms::NoMemory;
-use small_files::SmallRule;
+use small_programs::SmallRule;
 use std::alloc::Global;
 
 /// For each of so many constants the number of the first rule for it, from 2 in the order of

@@ -5,10 +5,10 @@ ghost use Rattle.small_search.specs.Closings.{closing_of, IsClosedBy, IsTable};
 
 use crate::closing::Closing;
 use crate::draft::Draft;
-use small_files::SmallFile;
+use small_programs::SmallProgram;
 use std::marker::Model;
 
-/// For each family of a small file the rule that closes it, if one does. A contract sees the closings
+/// For each family of a small program the rule that closes it, if one does. A contract sees the closings
 /// by family, and the closed families in the order in which they were closed.
 #[derive(Drop)]
 pub struct Table {
@@ -70,14 +70,14 @@ impl Table {
     }
 
     /// The number of the constant of the rule that closes a family. The table has to be one of the
-    /// file.
-    pub fn constant(&self, file: &SmallFile, family: u32) -> Option<u32>
-        requires { IsTable file.now self.now }
-        ensures found { IfSome result (λ number. IsClosedBy file.now self.now.by_family family number) }
+    /// program.
+    pub fn constant(&self, program: &SmallProgram, family: u32) -> Option<u32>
+        requires { IsTable program.now self.now }
+        ensures found { IfSome result (λ number. IsClosedBy program.now self.now.by_family family number) }
         ensures none { IfNone result (closing_of self.now.by_family family ≡ None) }
     {
         match self.rule(family) {
-            Some(rule) => Some(file.rules.as_slice()[rule as usize - 2].constant),
+            Some(rule) => Some(program.rules.as_slice()[rule as usize - 2].constant),
             None => None,
         }
     }

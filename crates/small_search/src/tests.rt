@@ -1,16 +1,19 @@
 //! With ample memory the search closes what it should, by the rule that is wanted.
 
+ghost use Rattle.std.specs.Prelude.{◌≡◌, ◌<◌, length, All, IfOk, IfSome};
+ghost use Rattle.small_programs.specs.SmallPrograms.{HasFamiliesBelow, IsNumbered};
+
 use crate::table::Table;
 use crate::worklist::search;
-use lf_terms::{Bytes, Ids, NoMemory};
-use small_files::small_file;
+use lf_terms::{Ids, Name, NoMemory};
+use small_programs::{SmallConst, SmallConsts, SmallProgram, SmallRule, SmallRules, SmallTheorems};
 use std::alloc::Global;
 use std::test::Fail;
 
-/// Files of three families p, q, r, numbered 0 to 2. A line has the constants, each as its binders and
-/// its family; the constants of the rules; the rules that close p, q and r; and the order in which
+/// Programs of three families p, q, r, numbered 0 to 2. A line has the constants, each as its binders
+/// and its family; the constants of the rules; the rules that close p, q and r; and the order in which
 /// they are closed.
-fn files() -> &'static str {
+fn programs() -> &'static str {
     "\
 p | p | 2 . . | 0
 p | | . . . |
@@ -26,33 +29,97 @@ rrqp r q | rrqp r q | 2 4 3 | 2 1 0
 qp rp r | qp rp r | 3 . 4 | 2 0"
 }
 
-/// Declares a constant of these binders and this family.
-fn declare(text: &mut Bytes, word: &str) -> Result<(), NoMemory> {
-    text.append(b" const c")?;
-    text.append(word.as_bytes())?;
-    let mut sign = b" : ".as_slice();
-    for letter in word.as_bytes() {
-        text.append(sign)?;
-        text.push(*letter)?;
-        sign = b" -> ".as_slice();
+/// The family of a letter.
+fn family_of(letter: u8) -> u32
+    ensures { result < 3 }
+{
+    match letter {
+        b'p' => 0,
+        b'q' => 1,
+        _ => 2,
     }
-    text.append(b".")
 }
 
-/// The text of a file.
-fn text_of(alloc: Global, constants: &str, rules: &str) -> Result<Bytes, NoMemory> {
-    let mut text = Bytes::from_slice(alloc, b"family p : type. family q : type. family r : type.")?;
-    for word in constants.split_whitespace() {
-        declare(&mut text, word)?;
+/// The families of some letters.
+fn families_of(alloc: Global, letters: &[u8]) -> Result<Ids, NoMemory>
+    ensures { IfOk result (λ families. All (λ family. family < 3) families) }
+{
+    let mut families = Ids::new(alloc);
+    for letter in letters {
+        families.push(family_of(*letter))?;
     }
-    for word in rules.split_whitespace() {
-        text.append(b" rule ")?;
-        text.append(word.as_bytes())?;
-        text.append(b" : unsafe 50 apply c")?;
-        text.append(word.as_bytes())?;
-        text.append(b".")?;
+    Ok(families)
+}
+
+/// The constant of a word, whose last letter is its family.
+fn constant_of(alloc: Global, word: &str) -> Result<SmallConst, NoMemory>
+    ensures { IfOk result (HasFamiliesBelow 3) }
+{
+    let letters = word.as_bytes();
+    let (binders, family) = match letters {
+        [binders @ .., family] => (binders, *family),
+        [] => (letters, b'r'),
+    };
+    Ok(SmallConst {
+        name: Name::from_slice(alloc, letters)?,
+        binders: families_of(alloc, binders)?,
+        family: family_of(family),
+    })
+}
+
+/// The constants of a line.
+fn constants_of(alloc: Global, words: &str) -> Result<SmallConsts, NoMemory>
+    ensures { IfOk result (λ constants. All (HasFamiliesBelow 3) constants) }
+{
+    let mut constants = SmallConsts::new(alloc);
+    for word in words.split_whitespace() {
+        constants.push(constant_of(alloc, word)?)?;
     }
-    Ok(text)
+    Ok(constants)
+}
+
+/// The place of the constant of a name.
+fn place_of(constants: &[SmallConst], name: &str) -> Option<u32>
+    ensures { IfSome result (λ place. place < length constants.now) }
+{
+    for place in 0..constants.len() {
+        if constants[place].name.is(name.as_bytes()) {
+            return u32::try_from(place).ok();
+        }
+    }
+    None
+}
+
+/// The rules of a line, each for the constant of its name.
+fn rules_of(alloc: Global, constants: &[SmallConst], words: &str) -> Result<SmallRules, Fail>
+    ensures { IfOk result (λ rules. All (λ rule. rule.constant < length constants.now) rules) }
+{
+    let mut rules = SmallRules::new(alloc);
+    for word in words.split_whitespace() {
+        let Some(constant) = place_of(constants, word) else {
+            return Err(Fail::from("a rule names no constant"));
+        };
+        rules.push(SmallRule {
+            name: Name::from_slice(alloc, word.as_bytes())?,
+            percent: 50,
+            constant,
+        })?;
+    }
+    Ok(rules)
+}
+
+/// The program of a line, without theorems.
+fn program_of(alloc: Global, constants: &str, rules: &str) -> Result<SmallProgram, Fail>
+    ensures { IfOk result IsNumbered }
+{
+    let constants = constants_of(alloc, constants)?;
+    let rules = rules_of(alloc, constants.as_slice(), rules)?;
+    Ok(SmallProgram {
+        families: 3,
+        constants,
+        rules,
+        theorems: SmallTheorems::new(alloc),
+    })
 }
 
 /// The numbers of a text.
@@ -89,21 +156,20 @@ fn has_ranks(table: &Table) -> bool {
 }
 
 #[test]
-fn files_close_by_these_rules(rt: HostRuntime) -> Result<(), Fail> {
-    for line in files().lines() {
+fn programs_close_by_these_rules(rt: HostRuntime) -> Result<(), Fail> {
+    for line in programs().lines() {
         let mut parts = line.split('|');
         let constants = parts.next().unwrap_or("");
         let rules = parts.next().unwrap_or("");
         let closed = parts.next().unwrap_or("");
         let order = numbers(rt.alloc(), parts.next().unwrap_or("none"))?;
-        let text = text_of(rt.alloc(), constants, rules)?;
-        let file = small_file(rt.alloc(), text.as_slice())?;
-        let table = search(rt.alloc(), &file)?;
+        let program = program_of(rt.alloc(), constants, rules)?;
+        let table = search(rt.alloc(), &program)?;
         assert!(rt; is_closed_by(&table, closed), "{line}");
         assert!(rt; has_ranks(&table), "{line}");
         assert_eq!(rt; table.order(), order.as_slice(), "{line}");
         for family in table.order() {
-            assert!(rt; table.constant(&file, *family).is_some(), "{line}");
+            assert!(rt; table.constant(&program, *family).is_some(), "{line}");
         }
     }
     Ok(())

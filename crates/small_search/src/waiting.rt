@@ -1,12 +1,12 @@
 //! Which constants wait for a family.
 
 ghost use Rattle.std.specs.Prelude.{◌≡◌, ◌++◌, ◌∷◌, [], ◌<◌, length, Some, None, IfOk, OnOk, slice_set, slice_index_or};
-ghost use Rattle.small_files.specs.SmallFiles.{IsNumbered};
+ghost use Rattle.small_programs.specs.SmallPrograms.{IsNumbered};
 ghost use Rattle.small_search.specs.Waits.{IsWaiting, IsComplete, KeepsWaiting, WaitsForBinders};
 
 use crate::constants::constant_at;
 use lf_terms::NoMemory;
-use small_files::SmallFile;
+use small_programs::SmallProgram;
 use std::alloc::Global;
 
 /// A constant that waits for a family, and the place of the next link of the same family.
@@ -25,11 +25,11 @@ pub struct Waiting {
 }
 
 impl Waiting {
-    /// Nothing waits yet for the families of a file.
-    fn new(alloc: Global, file: &SmallFile) -> Result<Waiting, NoMemory>
-        ensures { IfOk result (λ waiting. IsWaiting file.now waiting) }
+    /// Nothing waits yet for the families of a program.
+    fn new(alloc: Global, program: &SmallProgram) -> Result<Waiting, NoMemory>
+        ensures { IfOk result (λ waiting. IsWaiting program.now waiting) }
     {
-        let first: Vec<Option<u32>> = vec![in alloc; None; file.families.len()]?;
+        let first: Vec<Option<u32>> = vec![in alloc; None; program.families as usize]?;
         Ok(Waiting {
             first,
             links: Vec::new(alloc),
@@ -56,15 +56,15 @@ impl Waiting {
     }
 
     /// Lets a constant wait for each of its binders.
-    fn add_constant(&mut self, file: &SmallFile, number: u32) -> Result<(), NoMemory>
-        requires numbered { IsNumbered file.now }
-        requires known { number < length file.now.constants }
-        requires waiting { IsWaiting file.now self.old }
-        ensures waiting { OnOk result (IsWaiting file.now self.new) }
+    fn add_constant(&mut self, program: &SmallProgram, number: u32) -> Result<(), NoMemory>
+        requires numbered { IsNumbered program.now }
+        requires known { number < length program.now.constants }
+        requires waiting { IsWaiting program.now self.old }
+        ensures waiting { OnOk result (IsWaiting program.now self.new) }
         ensures kept { OnOk result (KeepsWaiting self.old self.new) }
-        ensures added { OnOk result (WaitsForBinders file.now self.new number) }
+        ensures added { OnOk result (WaitsForBinders program.now self.new number) }
     {
-        let constant = constant_at(file, number);
+        let constant = constant_at(program, number);
         for family in constant.binders.as_slice() {
             self.add(*family, number)?;
         }
@@ -72,19 +72,19 @@ impl Waiting {
     }
 }
 
-/// Lets each constant of a file wait for each of its binders.
-pub fn waiting_of(alloc: Global, file: &SmallFile) -> Result<Waiting, NoMemory>
-    requires { IsNumbered file.now }
-    ensures waiting { IfOk result (λ waiting. IsWaiting file.now waiting) }
-    ensures complete { IfOk result (λ waiting. IsComplete file.now (length file.now.constants) waiting) }
+/// Lets each constant of a program wait for each of its binders.
+pub fn waiting_of(alloc: Global, program: &SmallProgram) -> Result<Waiting, NoMemory>
+    requires { IsNumbered program.now }
+    ensures waiting { IfOk result (λ waiting. IsWaiting program.now waiting) }
+    ensures complete { IfOk result (λ waiting. IsComplete program.now (length program.now.constants) waiting) }
 {
-    let mut waiting = Waiting::new(alloc, file)?;
-    let count = file.constants.len();
+    let mut waiting = Waiting::new(alloc, program)?;
+    let count = program.constants.len();
     if count > u32::MAX as usize {
         return Err(NoMemory);
     }
     for number in 0..count {
-        waiting.add_constant(file, number as u32)?;
+        waiting.add_constant(program, number as u32)?;
     }
     Ok(waiting)
 }

@@ -5,7 +5,7 @@ use Rattle.aesop_session.proofs.document.write_blocks.Goals as goal
 
 pub loop-theorem-init : goal.loop-theorem-init
 loop-theorem-init g c = record {
-  written = WritesBlocks-nothing c.args.file.now _;
+  written = WritesBlocks-nothing c.args.program.now _;
   faults_later = omega arith;
   zeros_later = omega arith;
 }
@@ -18,7 +18,7 @@ returns-in-Err-clause-err g c =
 
 pub loop-theorem-preserved : goal.loop-theorem-preserved
 loop-theorem-preserved g c = record {
-  written = subst (λ theorems. WritesBlocks c.args.file.now theorems (g.K.Sink.held c.args.sink.now) (g.K.Sink.held c.answer_theorem.new.sink) c.status_after-status.result)
+  written = subst (λ theorems. WritesBlocks c.args.program.now theorems (g.K.Sink.held c.args.sink.now) (g.K.Sink.held c.answer_theorem.new.sink) c.status_after-status.result)
       (take_next _ _ _ c.loop-theorem-test.true c.theorem-item.is)
       (WritesBlocks-push _ _ _ _ _ _ _ _ _ c.loop-theorem.invariant.written c.in-Ok.ensures.ok c.status_after-status.ensures);
   faults_later = omega (arith, c.loop-theorem.invariant.faults_later, c.in-Ok.ensures.faults_later);

@@ -1,7 +1,19 @@
+use Rattle.std.proofs.Common.{◌≡◌, subst}
+use Rattle.aesop_session.specs.declared.input.NoProgram.TheVariants as none
+use Rattle.aesop_session.specs.Serving.{IsNoProgram}
 use Rattle.aesop_session.proofs.top.prove.Goals as goal
 
 pub returns-in-Ok-clause-answered : goal.returns-in-Ok-clause-answered
-returns-in-Ok-clause-answered g c = c.answer.ensures.answered _ _ c.in-Ok.ensures.file
+returns-in-Ok-clause-answered g c = c.answer.ensures.answered _ _ c.in-Ok.ensures.small
+
+pub returns-in-Err-TooLong-clause-answered : goal.returns-in-Err-TooLong-clause-answered
+returns-in-Err-TooLong-clause-answered g c =
+    let is : c.in-Err-TooLong.field-0 ≡ none.TooLong = cc in
+    c.say_too_long.ensures.answered _ _
+    (subst (IsNoProgram (g.S.Source.left c.args.source.now) (g.S.Source.left c.read_program.new.source)) is c.in-Err-TooLong.ensures.why)
 
 pub returns-in-Err-Refused-clause-answered : goal.returns-in-Err-Refused-clause-answered
-returns-in-Err-Refused-clause-answered g c = c.say_refused.ensures.answered _ _ (c.in-Err-Refused.ensures.refused (cc))
+returns-in-Err-Refused-clause-answered g c =
+    let is : c.in-Err-Refused.field-0 ≡ none.Refused c.in-Err-Refused.refusal = cc in
+    c.say_refused.ensures.answered _ _
+    (subst (IsNoProgram (g.S.Source.left c.args.source.now) (g.S.Source.left c.read_program.new.source)) is c.in-Err-Refused.ensures.why)

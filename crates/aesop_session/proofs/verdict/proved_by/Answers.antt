@@ -10,5 +10,5 @@ returns c =
     let terms = c.in_ok-terms.terms.items in
     let known : c.args.rank < length terms = omega (arith, c.requires.proofs.table.closings.within c.args.family closed.closing closed.closes, closed.rank_is, c.in_ok-terms.ensures.size) in
     let term = c.index.result.now in
-    HasTerms-at c.args.file.now table c.args.family c.args.rank term c.in_ok-term.term _ _ c.requires.proofs.table closed c.new-numbers.ensures c.in_ok-append_numbers.ensures
+    HasTerms-at c.args.program.now table c.args.family c.args.rank term c.in_ok-term.term _ _ c.requires.proofs.table closed c.new-numbers.ensures c.in_ok-append_numbers.ensures
     (c.in_ok-terms.ensures.terms c.args.rank term (slice_get_read terms (length terms) c.args.rank term refl known c.index.ensures)) c.in_ok-term.ensures

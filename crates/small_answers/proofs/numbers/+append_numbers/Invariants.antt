@@ -8,4 +8,4 @@ abbrev pub decreases-append_numbers : goal.decreases-append_numbers
 decreases-append_numbers l = rank_of (closing_of l.table.now.by_family l.family)
 
 abbrev pub invariant-loop-binder : goal.invariant-loop-binder
-invariant-loop-binder l = AddsNumbers l.file l.table.by_family (take l.binder-index l.binder-items) l.initial.numbers l.numbers
+invariant-loop-binder l = AddsNumbers l.program l.table.by_family (take l.binder-index l.binder-items) l.initial.numbers l.numbers

@@ -5,5 +5,5 @@ use Rattle.small_answers.proofs.table_lengths.lengths_of.Given as goal
 abbrev pub invariant-loop-family : goal.invariant-loop-family
 invariant-loop-family l = record {
   size : length l.lengths.items ≡ l.family-index;
-  are : AreLengths l.file l.table l.lengths.items;
+  are : AreLengths l.program l.table l.lengths.items;
 }

@@ -8,4 +8,4 @@ abbrev pub decreases-append_term : goal.decreases-append_term
 decreases-append_term l = rank_of (closing_of l.table.now.by_family l.family)
 
 abbrev pub invariant-loop-binder : goal.invariant-loop-binder
-invariant-loop-binder l = AddsArgs l.file l.table.by_family (take l.binder-index l.binder-items) l.initial.out l.out
+invariant-loop-binder l = AddsArgs l.program l.table.by_family (take l.binder-index l.binder-items) l.initial.out l.out

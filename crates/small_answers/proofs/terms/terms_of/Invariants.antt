@@ -5,5 +5,5 @@ use Rattle.small_answers.proofs.terms.terms_of.Given as goal
 abbrev pub invariant-loop-family : goal.invariant-loop-family
 invariant-loop-family l = record {
   size : length l.terms.items ≡ l.family-index;
-  are : AreTerms l.file l.table l.terms.items;
+  are : AreTerms l.program l.table l.terms.items;
 }

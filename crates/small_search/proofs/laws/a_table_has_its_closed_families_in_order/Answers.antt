@@ -5,7 +5,7 @@ use Rattle.small_search.proofs.Options.{some_from_IsSome, IsSome-from_some}
 use Rattle.small_search.proofs.laws.a_table_has_its_closed_families_in_order.Goals as goal
 
 pub returns : goal.returns
-returns c = λ file table family is_table. (
+returns c = λ program table family is_table. (
   λ is_closed.
       (let some = some_from_IsSome _ is_closed in
       let within = is_table.closings.within family some.0 some.1 in

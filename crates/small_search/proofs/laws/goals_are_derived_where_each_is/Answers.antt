@@ -5,7 +5,7 @@ use Rattle.small_search.proofs.Derivations.{HasDerivation-all, HasDerivation-eac
 use Rattle.small_search.proofs.laws.goals_are_derived_where_each_is.Goals as goal
 
 pub returns : goal.returns
-returns c = λ file goals. (
-  λ all. All-from_recursion (λ goal. HasDerivation file (goal ∷ [])) goals (HasDerivation-each file goals all),
-  λ each. HasDerivation-all file goals (recursion_from_All (λ goal. HasDerivation file (goal ∷ [])) goals each),
+returns c = λ program goals. (
+  λ all. All-from_recursion (λ goal. HasDerivation program (goal ∷ [])) goals (HasDerivation-each program goals all),
+  λ each. HasDerivation-all program goals (recursion_from_All (λ goal. HasDerivation program (goal ∷ [])) goals each),
 )

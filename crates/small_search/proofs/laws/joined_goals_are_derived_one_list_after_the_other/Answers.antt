@@ -5,5 +5,5 @@ use Rattle.small_search.proofs.Derivations.{Derivation-join, Derivation-split}
 use Rattle.small_search.proofs.laws.joined_goals_are_derived_one_list_after_the_other.Goals as goal
 
 pub returns : goal.returns
-returns c = λ file xs ys numbers.
-    (Derivation-split file xs ys numbers, λ parts. subst (Derivation file (xs ++ ys)) (sym parts.numbers_are) (Derivation-join file xs ys parts.first parts.rest parts.of_first parts.of_rest))
+returns c = λ program xs ys numbers.
+    (Derivation-split program xs ys numbers, λ parts. subst (Derivation program (xs ++ ys)) (sym parts.numbers_are) (Derivation-join program xs ys parts.first parts.rest parts.of_first parts.of_rest))

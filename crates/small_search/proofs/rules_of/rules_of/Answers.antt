@@ -1,7 +1,7 @@
 use Rattle.std.proofs.Common.{ℕ, ◌≡◌, ◌<◌, ◌+◌, Option, length, Some, None, IsSome, get_or, set, subst, sym, ap, ◌∙◌, arith}
 use Rattle.std.proofs.lemmas.List.{get_or_default, length-set}
 use Rattle.std.proofs.lemmas.Option.{slice_get-get_or}
-use Rattle.small_files.specs.declared.small.SmallRule.{SmallRule}
+use Rattle.small_programs.specs.declared.small.SmallRule.{SmallRule}
 use Rattle.small_search.specs.RulesOf.{rule_of, IsRulesOf}
 use Rattle.small_search.proofs.RulesOf.{IsRulesOf-kept, IsRulesOf-set}
 use Rattle.small_search.proofs.rules_of.rules_of.Goals as goal

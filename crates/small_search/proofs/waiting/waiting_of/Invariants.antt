@@ -3,6 +3,6 @@ use Rattle.small_search.proofs.waiting.waiting_of.Given as goal
 
 abbrev pub invariant-loop-number : goal.invariant-loop-number
 invariant-loop-number l = record {
-  waiting : IsWaiting l.file l.waiting;
-  complete : IsComplete l.file l.number l.waiting;
+  waiting : IsWaiting l.program l.waiting;
+  complete : IsComplete l.program l.number l.waiting;
 }

@@ -7,12 +7,12 @@ use Rattle.small_search.proofs.worklist.search.Goals as goal
 
 pub returns : goal.returns
 returns c =
-    let file = c.args.file.now in
+    let program = c.args.program.now in
     let draft = c.in_ok-finish.ensures.draft in
     let rules_are = subst (λ rules. IsRulesOf rules (length rules) c.in_ok-rules.rules.items) c.as_slice.ensures c.in_ok-rules.ensures.rules in
-    let known = subst (IsRulesOf file.rules (length file.rules)) (sym c.as_slice-3.ensures.value) rules_are in
-    subst (IsTable file) (sym c.from_draft.ensures) (record {
+    let known = subst (IsRulesOf program.rules (length program.rules)) (sym c.as_slice-3.ensures.value) rules_are in
+    subst (IsTable program) (sym c.from_draft.ensures) (record {
       closings = draft.closings;
-      derived = HasDerivation-closed file _ _ draft.closings;
-      stays_open = HasNoDerivation-open file c.as_slice-3.result.now _ _ draft.closings known c.in_ok-finish.ensures.settled;
+      derived = HasDerivation-closed program _ _ draft.closings;
+      stays_open = HasNoDerivation-open program c.as_slice-3.result.now _ _ draft.closings known c.in_ok-finish.ensures.settled;
     })

@@ -19,20 +19,20 @@ has c = c.in-Some.is
 
 pub returns-in-Some-clause-draft : goal.returns-in-Some-clause-draft
 returns-in-Some-clause-draft c =
-    let file = c.args.file.now in
+    let program = c.args.program.now in
     let old = c.pass.new.self in
     let new = c.close.new.self in
     let constant = c.constant_at.result.now in
-    on_ok_weaker {P = ClosesBy old new constant.family c.in-Some.rule} {Q = IsDraft file new} c.close.result
-    (IsDraft-by file c.args.rules.now c.args.number c.in-Some.rule constant old new c.requires.prepared c.pass.ensures.draft c.constant_at.ensures (has c) (is_open c) (c.if-not-pass.ensures.whole refl constant c.constant_at.ensures))
+    on_ok_weaker {P = ClosesBy old new constant.family c.in-Some.rule} {Q = IsDraft program new} c.close.result
+    (IsDraft-by program c.args.rules.now c.args.number c.in-Some.rule constant old new c.requires.prepared c.pass.ensures.draft c.constant_at.ensures (has c) (is_open c) (c.if-not-pass.ensures.whole refl constant c.constant_at.ensures))
     c.close.ensures
 
 pub returns-in-Some-clause-advanced : goal.returns-in-Some-clause-advanced
 returns-in-Some-clause-advanced c =
-    let file = c.args.file.now in
+    let program = c.args.program.now in
     let old = c.pass.new.self in
     let new = c.close.new.self in
     let constant = c.constant_at.result.now in
-    on_ok_weaker {P = ClosesBy old new constant.family c.in-Some.rule} {Q = IsAdvanced file c.args.rules.now new.closings.items c.args.number} c.close.result
-    (IsAdvanced-by file c.args.rules.now c.args.number c.in-Some.rule constant old new c.requires.prepared c.pass.ensures.draft c.constant_at.ensures (has c) (is_open c) (c.if-not-pass.ensures.whole refl constant c.constant_at.ensures))
+    on_ok_weaker {P = ClosesBy old new constant.family c.in-Some.rule} {Q = IsAdvanced program c.args.rules.now new.closings.items c.args.number} c.close.result
+    (IsAdvanced-by program c.args.rules.now c.args.number c.in-Some.rule constant old new c.requires.prepared c.pass.ensures.draft c.constant_at.ensures (has c) (is_open c) (c.if-not-pass.ensures.whole refl constant c.constant_at.ensures))
     c.close.ensures

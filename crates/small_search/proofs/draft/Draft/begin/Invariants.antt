@@ -3,6 +3,6 @@ use Rattle.small_search.proofs.draft.Draft.begin.Given as goal
 
 abbrev pub invariant-loop-number : goal.invariant-loop-number
 invariant-loop-number l = record {
-  draft : IsDraft l.file l.self;
-  settled : AllSettled l.file l.rules l.self.closings.items 0 l.number;
+  draft : IsDraft l.program l.self;
+  settled : AllSettled l.program l.rules l.self.closings.items 0 l.number;
 }

@@ -27,7 +27,7 @@ first_is c known is =
 
 pub loop-at-init : goal.loop-at-init
 loop-at-init c =
-    let file = c.args.file.now in
+    let program = c.args.program.now in
     let waiting = c.args.waiting.now in
     let draft = c.args.self.now in
     let read = (goal.at.loop-at-init c).After-index in
@@ -37,8 +37,8 @@ loop-at-init c =
       within = c.requires.rank;
       longer = omega arith;
       known = subst (λ (at : Option ℕ). IfSome at (λ place. place < length waiting.links.items)) (sym first) (c.requires.waiting.first _);
-      woken = subst (AllWoken file c.args.rules.now draft.closings.items (c.args.rank + 1) waiting.links.items) (sym first)
-          (AllWoken-start file c.args.rules.now waiting c.args.rank draft.closings.items draft.order.items c.requires.draft.closings c.requires.complete c.requires.settled);
+      woken = subst (AllWoken program c.args.rules.now draft.closings.items (c.args.rank + 1) waiting.links.items) (sym first)
+          (AllWoken-start program c.args.rules.now waiting c.args.rank draft.closings.items draft.order.items c.requires.draft.closings c.requires.complete c.requires.settled);
     }
 
 link_is : (c : After-index-link) → slice_get c.args.waiting.now.links.items c.in-Some.place ≡ Some c.index-link.result.now
@@ -47,7 +47,7 @@ link_is c =
     let known : c.in-Some.place < length links = MatchOption-at_some _ (λ (place : ℕ). place < length links) c.in-Some.place c.in-Some.is c.loop-at.invariant.known in
     slice_get_read links (length links) c.in-Some.place c.index-link.result.now refl known c.index-link.ensures
 
-is_link : (c : After-index-link) → IsLink c.args.file.now c.in-Some.place c.index-link.result.now
+is_link : (c : After-index-link) → IsLink c.args.program.now c.in-Some.place c.index-link.result.now
 is_link c = c.requires.waiting.links c.in-Some.place c.index-link.result.now (link_is c)
 
 pub advance-requires-clause-known : goal.advance-requires-clause-known
@@ -73,13 +73,13 @@ loop-at-preserved c =
       longer = omega (arith, longer, c.loop-at.invariant.longer);
       known = IfSome_then next {P = λ n. n < c.in-Some.place} {Q = λ n. n < length waiting.links.items} link.back
           (λ n h. omega (arith, h, MatchOption-at_some _ (λ (place : ℕ). place < length waiting.links.items) c.in-Some.place c.in-Some.is c.loop-at.invariant.known));
-      woken = AllWoken-more c.args.file.now c.args.rules.now waiting c.args.rank old.closings.items c.advance.new.self.closings.items (length old.order.items) c.in-Some.place c.index-link.result.now
+      woken = AllWoken-more c.args.program.now c.args.rules.now waiting c.args.rank old.closings.items c.advance.new.self.closings.items (length old.order.items) c.in-Some.place c.index-link.result.now
           (omega (arith, c.loop-at.invariant.within)) c.in_ok-advance.ensures.closes (link_is (goal.at.loop-at-preserved c).After-index-link) c.in_ok-advance.ensures.advanced
-          (subst (AllWoken c.args.file.now c.args.rules.now old.closings.items (c.args.rank + 1) waiting.links.items) c.in-Some.is c.loop-at.invariant.woken);
+          (subst (AllWoken c.args.program.now c.args.rules.now old.closings.items (c.args.rank + 1) waiting.links.items) c.in-Some.is c.loop-at.invariant.woken);
     }
 
 pub returns-clause-settled : goal.returns-clause-settled
 returns-clause-settled c =
     let waiting = c.args.waiting.now in
-    AllWoken-end c.args.file.now c.args.rules.now waiting c.args.rank c.loop-at.self.closings.items
-    (subst (AllWoken c.args.file.now c.args.rules.now c.loop-at.self.closings.items (c.args.rank + 1) waiting.links.items) c.in_default.is c.loop-at.invariant.woken)
+    AllWoken-end c.args.program.now c.args.rules.now waiting c.args.rank c.loop-at.self.closings.items
+    (subst (AllWoken c.args.program.now c.args.rules.now c.loop-at.self.closings.items (c.args.rank + 1) waiting.links.items) c.in_default.is c.loop-at.invariant.woken)

@@ -5,11 +5,11 @@ use Rattle.small_search.proofs.draft.Draft.wake.Given as goal
 
 abbrev pub invariant-loop-at : goal.invariant-loop-at
 invariant-loop-at l = record {
-  draft : IsDraft l.file l.self;
+  draft : IsDraft l.program l.self;
   within : l.rank < length l.self.order.items;
   longer : length l.fn.self.order.items ≤ length l.self.order.items;
   known : IfSome l.at (λ place. place < length l.waiting.links.items);
-  woken : AllWoken l.file l.rules l.self.closings.items (l.rank + 1) l.waiting.links.items l.at;
+  woken : AllWoken l.program l.rules l.self.closings.items (l.rank + 1) l.waiting.links.items l.at;
 }
 
 -- how many places there are before the next link, and with it

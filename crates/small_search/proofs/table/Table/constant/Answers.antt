@@ -1,12 +1,12 @@
 use Rattle.std.proofs.Common.{◌-◌, ◌<◌, List, length, slice_index_or, subst, sym}
-use Rattle.small_files.specs.declared.small.SmallRule.{SmallRule}
+use Rattle.small_programs.specs.declared.small.SmallRule.{SmallRule}
 use Rattle.small_search.specs.Closings.{IsClosedBy}
 use Rattle.small_search.proofs.Found.{IsFound, IsFound-closed}
 use Rattle.small_search.proofs.table.Table.constant.Goals as goal
 use Rattle.small_search.proofs.table.Table.constant.Goals.{In-Some}
 
-found : (c : In-Some) → IsFound c.args.file.now c.args.self.now.by_family c.args.family c.in-Some.rule
-found c = IsFound-closed c.args.file.now c.args.self.now.by_family c.args.self.now.order c.args.family c.in-Some.rule c.requires.closings c.in-Some.ensures
+found : (c : In-Some) → IsFound c.args.program.now c.args.self.now.by_family c.args.family c.in-Some.rule
+found c = IsFound-closed c.args.program.now c.args.self.now.by_family c.args.self.now.order c.args.family c.in-Some.rule c.requires.closings c.in-Some.ensures
 
 pub overflow_sub-result : goal.overflow_sub-result
 overflow_sub-result c = let rule = found (goal.at.overflow_sub-result c).In-Some in rule.two
@@ -24,5 +24,5 @@ bounds-as_slice-rule-in-Some c =
 pub returns-in-Some-clause-found : goal.returns-in-Some-clause-found
 returns-in-Some-clause-found c =
     let rule = found (goal.at.returns-in-Some-clause-found c).In-Some in
-    let By = λ (rules : List SmallRule). IsClosedBy c.args.file.now c.args.self.now.by_family c.args.family (slice_index_or rules (c.in-Some.rule - 2) c.index-as_slice-rule.result).constant in
+    let By = λ (rules : List SmallRule). IsClosedBy c.args.program.now c.args.self.now.by_family c.args.family (slice_index_or rules (c.in-Some.rule - 2) c.index-as_slice-rule.result).constant in
     subst By (sym c.as_slice.ensures) (rule.by c.index-as_slice-rule.result)

@@ -5,7 +5,7 @@ use Rattle.small_search.proofs.waiting.Waiting.add_constant.Goals as goal
 
 pub loop-family-preserved : goal.loop-family-preserved
 loop-family-preserved c =
-    let file = c.args.file.now in
+    let program = c.args.program.now in
     let number = c.args.number in
     let old = c.loop-family.self in
     let new = c.add.new.self in
@@ -13,15 +13,15 @@ loop-family-preserved c =
     let index = c.loop-family.family-index in
     let family : ℕ = get_or families index 0 in
     let before = c.loop-family.invariant in
-    let binders = IsNumbered-binders file number _ c.requires.numbered c.constant_at-constant.ensures in
+    let binders = IsNumbered-binders program number _ c.requires.numbered c.constant_at-constant.ensures in
     let lt : index < length c.constant_at-constant.result.now.binders = omega (arith, ap length c.as_slice-family-items.ensures) in
-    let in_file : family < length file.families = subst (λ xs. get_or xs index 0 < length file.families) (sym c.as_slice-family-items.ensures) (binders index 0 lt) in
+    let in_program : family < program.families = subst (λ xs. get_or xs index 0 < program.families) (sym c.as_slice-family-items.ensures) (binders index 0 lt) in
     let known : family < length old.first.items = omega (arith, before.waiting.size) in
     let first = c.in_ok-add.ensures.first in
     let links = c.in_ok-add.ensures.links in
-    let kept = KeepsWaiting-added file old new family number before.waiting known c.requires.known first links in
+    let kept = KeepsWaiting-added program old new family number before.waiting known c.requires.known first links in
     record {
-      waiting = IsWaiting-added file old new family number before.waiting known c.requires.known first links;
+      waiting = IsWaiting-added program old new family number before.waiting known c.requires.known first links;
       kept = λ f n w. kept f n (before.kept f n w);
-      added = below_more _ _ (λ k h. kept _ _ (before.added k h)) (WaitsFor-added file old new family number before.waiting known c.requires.known first links);
+      added = below_more _ _ (λ k h. kept _ _ (before.added k h)) (WaitsFor-added program old new family number before.waiting known c.requires.known first links);
     }

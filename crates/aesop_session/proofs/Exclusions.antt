@@ -1,0 +1,94 @@
+-- Bytes that are accepted with a small program are refused for nothing, since each pass has one answer.
+use Rattle.std.proofs.Common.{◌≡◌, ℕ, ◌<◌, List, [], ◌∷◌, ◌++◌, length, refl, sym, ap, ◌∙◌, subst, arith, append_assoc, Option, None, Some}
+use Rattle.std.proofs.lemmas.List.{append-nil, map-append, take_at}
+use Rattle.lex_text.specs.declared.token.Token.{Token}
+use Rattle.lex_text.specs.Tokens.{bad_character, long_name}
+use Rattle.lex_text.proofs.Unique.{TokensOf-unique, TokensOf-not_wrong, TokensOf-not_not_utf8}
+use Rattle.file_trees.specs.declared.decl_tree.DeclTree.{DeclTree}
+use Rattle.file_syntax.specs.declared.sign.Sign.{Sign}
+use Rattle.file_syntax.specs.Signs.{sign_of, signs_of}
+use Rattle.file_syntax.specs.Productions.{IsFile}
+use Rattle.file_syntax.specs.Nesting.{nesting, IsShallow}
+use Rattle.file_syntax.specs.Files.{IsParsed, GoesNoFurther, IsExpected, IsTooDeep}
+use Rattle.file_syntax.proofs.Derivations.{run-file}
+use Rattle.elab_terms.specs.declared.elab_fault.ElabFault.{ElabFault}
+use Rattle.elab_terms.specs.declared.elab_fault.ElabFault.TheVariants as faults
+use Rattle.file_elab.specs.Programs.{LfProgram, IsParsedFrom, IsProgram}
+use Rattle.small_forms.specs.Smallness.{IsSmall}
+use Rattle.aesop_session.specs.declared.refusal.RefusalKind.{RefusalKind}
+use Rattle.aesop_session.specs.declared.refusal.RefusalKind.TheVariants.{NotUtf8, BadCharacter, LongName, Expected, TooDeep, Taken, TooMany, Unknown, Redex, IllTyped, BadRule, Unsupported}
+use Rattle.aesop_session.specs.Refusals.{IsAccepted, HasFault, RefusesText}
+use Rattle.file_elab.proofs.OneProgram.{one_program_of_file, program_not_refused}
+
+-- the signs of tokens of which these come first
+signs_of-parts : (bytes : List ℕ) (front rest tokens : List Token) → tokens ≡ front ++ rest → signs_of bytes tokens ≡ signs_of bytes front ++ signs_of bytes rest
+signs_of-parts bytes front rest tokens e = ap (signs_of bytes) e ∙ map-append (sign_of bytes) front rest
+
+signs_of-token : (bytes : List ℕ) (front rest tokens : List Token) (token : Token) → tokens ≡ front ++ token ∷ rest →
+    signs_of bytes tokens ≡ (signs_of bytes front ++ sign_of bytes token ∷ []) ++ signs_of bytes rest
+signs_of-token bytes front rest tokens token e =
+    signs_of-parts bytes front (token ∷ rest) tokens e ∙ sym (append_assoc (signs_of bytes front) (sign_of bytes token ∷ []) (signs_of bytes rest))
+
+-- a file goes on with each of its tokens
+goes_further : (bytes : List ℕ) (front rest tokens : List Token) (declarations : List DeclTree) → tokens ≡ front ++ rest → IsFile (signs_of bytes tokens) declarations →
+    GoesNoFurther bytes (signs_of bytes front) rest → ⊥
+goes_further bytes front [] tokens declarations e file none = none declarations (subst (λ ts. IsFile (signs_of bytes ts) declarations) (e ∙ append-nil front) file)
+goes_further bytes front (token ∷ rest) tokens declarations e file none =
+    none (signs_of bytes rest, declarations, subst (λ signs. IsFile signs declarations) (signs_of-token bytes front rest tokens token e) file)
+
+IsParsed-not_expected : (bytes : List ℕ) (tokens : List Token) (size place : ℕ) (declarations : List DeclTree) → IsParsed bytes tokens declarations → IsExpected bytes tokens size place → ⊥
+IsParsed-not_expected bytes tokens size place declarations parsed h = goes_further bytes h.front h.rest tokens declarations h.parts parsed.file h.no_further
+
+-- a front of what is shallow is so
+shallow_front : (front rest : List Sign) → IsShallow (front ++ rest) → 256 < nesting front → ⊥
+shallow_front front rest shallow deep =
+    let same = ap nesting (take_at front rest (length front) refl) in
+    omega (arith, shallow (length front), same, deep)
+
+IsParsed-not_deep : (bytes : List ℕ) (tokens : List Token) (place : ℕ) (declarations : List DeclTree) → IsParsed bytes tokens declarations → IsTooDeep bytes tokens place → ⊥
+IsParsed-not_deep bytes tokens place declarations parsed h =
+    shallow_front (signs_of bytes h.front ++ sign_of bytes h.token ∷ []) (signs_of bytes h.rest)
+    (subst IsShallow (signs_of-token bytes h.front h.rest tokens h.token h.parts) parsed.shallow) h.deep
+
+abbrev inside : {A : Type 0} (a : A) → Option A → A
+inside a None = a
+inside a (Some b) = b
+
+same_inside : {A : Type 0} (a b : A) → Some a ≡ Some b → a ≡ b
+same_inside a b same = ap (inside a) same
+
+-- the declarations of bytes are one list
+one_tree : (bytes : List ℕ) (tokens : List Token) (declarations other : List DeclTree) → IsParsed bytes tokens declarations → IsParsed bytes tokens other → declarations ≡ other
+one_tree bytes tokens declarations other h k =
+    let same = same_inside _ _ (sym (run-file h.file) ∙ run-file k.file) in
+    ap (λ state. state.decls) same
+
+IsParsedFrom-unique : (bytes : List ℕ) (declarations other : List DeclTree) → IsParsedFrom bytes declarations → IsParsedFrom bytes other → declarations ≡ other
+IsParsedFrom-unique bytes declarations other h k =
+    one_tree bytes k.0 declarations other (subst (λ tokens. IsParsed bytes tokens declarations) (TokensOf-unique bytes h.0 k.0 h.1 k.1) h.2) k.2
+
+pub IsAccepted-unique : (bytes : List ℕ) (program other : LfProgram) → IsAccepted bytes program → IsAccepted bytes other → program ≡ other
+IsAccepted-unique bytes program other h k =
+    one_program_of_file bytes k.0 program other
+    (subst (λ declarations. IsProgram bytes declarations program) (IsParsedFrom-unique bytes h.0 k.0 h.1 k.1) h.2) k.2
+
+IsAccepted-no_fault : (bytes : List ℕ) (program : LfProgram) (fault : ElabFault) → IsAccepted bytes program → HasFault bytes fault → ⊥
+IsAccepted-no_fault bytes program fault h k =
+    program_not_refused bytes k.0 program fault
+    (subst (λ declarations. IsProgram bytes declarations program) (IsParsedFrom-unique bytes h.0 k.0 h.1 k.1) h.2) k.2
+
+pub IsAccepted-not_refused : (kind : RefusalKind) (bytes : List ℕ) (program : LfProgram) (place : ℕ) → IsAccepted bytes program → IsSmall program → RefusesText bytes place kind → ⊥
+IsAccepted-not_refused NotUtf8 bytes program place h small r = TokensOf-not_not_utf8 bytes h.1.0 place h.1.1 r
+IsAccepted-not_refused BadCharacter bytes program place h small r = TokensOf-not_wrong bytes h.1.0 (bad_character place) h.1.1 r
+IsAccepted-not_refused LongName bytes program place h small r = TokensOf-not_wrong bytes h.1.0 (long_name place) h.1.1 r
+IsAccepted-not_refused Expected bytes program place h small r =
+    IsParsed-not_expected bytes r.0 (length bytes) place h.0 (subst (λ tokens. IsParsed bytes tokens h.0) (TokensOf-unique bytes h.1.0 r.0 h.1.1 r.1) h.1.2) r.2
+IsAccepted-not_refused TooDeep bytes program place h small r =
+    IsParsed-not_deep bytes r.0 place h.0 (subst (λ tokens. IsParsed bytes tokens h.0) (TokensOf-unique bytes h.1.0 r.0 h.1.1 r.1) h.1.2) r.2
+IsAccepted-not_refused Taken bytes program place h small r = IsAccepted-no_fault bytes program (faults.Taken place) h r
+IsAccepted-not_refused TooMany bytes program place h small r = IsAccepted-no_fault bytes program (faults.TooMany place) h r
+IsAccepted-not_refused Unknown bytes program place h small r = IsAccepted-no_fault bytes program (faults.Unknown place) h r
+IsAccepted-not_refused Redex bytes program place h small r = IsAccepted-no_fault bytes program (faults.Redex place) h r
+IsAccepted-not_refused IllTyped bytes program place h small r = IsAccepted-no_fault bytes program (faults.IllTyped place) h r
+IsAccepted-not_refused BadRule bytes program place h small r = IsAccepted-no_fault bytes program (faults.BadRule place) h r
+IsAccepted-not_refused Unsupported bytes program place h small r = r.3 (subst IsSmall (IsAccepted-unique bytes program r.1 h r.2) small)
