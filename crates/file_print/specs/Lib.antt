@@ -1,0 +1,6 @@
+pub mod Mentions
+pub mod Texts
+pub mod Printable
+pub mod Marks
+pub mod Parts
+pub mod Tests

@@ -1,0 +1,2 @@
+pub mod PrintedTrees
+pub mod Laws

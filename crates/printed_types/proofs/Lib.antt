@@ -1,0 +1,4 @@
+pub mod PrintedNames
+pub mod PrintableTypes
+pub mod Nesting
+pub mod ReadBack
