@@ -1,6 +1,6 @@
 //! Bytes.
 
-ghost use Rattle.std.specs.Prelude.{◌≡◌, ◌++◌, [], ◌∷◌, IfOk, OnOk, OnErr, length};
+ghost use Rattle.std.specs.Prelude.{◌≡◌, ◌++◌, [], ◌∷◌, IfOk, OnOk, OnErr, length, take};
 
 use crate::no_memory::NoMemory;
 use std::alloc::Global;
@@ -82,6 +82,13 @@ impl Bytes {
     {
         self.items.extend_from_slice(bytes)?;
         Ok(())
+    }
+
+    /// Keeps the first `len` bytes, or all where there are not so many, and keeps the memory of the others.
+    pub fn truncate(&mut self, len: usize)
+        ensures { self.new ≡ take len self.old }
+    {
+        self.items.truncate(len);
     }
 
     /// Takes all bytes away and keeps their memory.

@@ -119,7 +119,14 @@ impl Signature {
     pub fn find(&self, name: &Name) -> Found
         ensures { Finds self.now name.now result }
     {
-        match self.names.find(name.as_bytes()) {
+        self.find_bytes(name.as_bytes())
+    }
+
+    /// What the name of these bytes stands for, as `find` answers it.
+    pub fn find_bytes(&self, name: &[u8]) -> Found
+        ensures { Finds self.now name.now result }
+    {
+        match self.names.find(name) {
             None => Found::Absent,
             Some(place) => self.order[place as usize],
         }
