@@ -2,5 +2,6 @@ pub mod Occurrences
 pub mod PlacedMarks
 pub mod MarkSteps
 pub mod MarkFronts
+mod KeptTexts
 pub mod TextSteps
 pub mod TestValues

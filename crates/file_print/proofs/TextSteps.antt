@@ -3,6 +3,7 @@ use Rattle.std.proofs.Common.{◌≡◌, ℕ, suc, ◌+◌, ◌<◌, ◌≤◌, 
 use Rattle.std.proofs.lemmas.Bool.{lt-ltb}
 use Rattle.std.proofs.lemmas.List.{drop_all}
 use Rattle.std.proofs.lemmas.Option.{get_or_from_slice_get}
+use Rattle.std.specs.Io.{StartsWith}
 use Rattle.lf_definitions.specs.Syntax.{Spine, arg, LfType, pi, family, pis}
 use Rattle.lf_definitions.specs.Signatures.{LfSignature, family_names}
 use Rattle.lf_terms.specs.declared.term.Term.{Term}
@@ -15,6 +16,7 @@ use Rattle.file_print.specs.Mentions.{mentions}
 use Rattle.file_print.specs.Parts.{argument_text, binder_text}
 use Rattle.file_print.specs.Printable.{IsPrintable, ArePrintable, IsPrintableType}
 use Rattle.file_print.specs.Texts.{args_text, has_binders, type_text}
+use Rattle.file_print.proofs.KeptTexts.{kept_unchanged, kept_appended, kept_later}
 use Rattle.file_print.proofs.MarkFronts.{front_within, front_mark, front_later, front_first, front_then}
 use Rattle.file_print.proofs.MarkSteps.{spine_of-drop}
 
@@ -23,9 +25,10 @@ use Rattle.file_print.proofs.MarkSteps.{spine_of-drop}
 pub record PrintedArgs (sig : LfSignature) (depth : ℕ) (items : List Term) (i : ℕ) (old out : List ℕ) : Type 0 where
   pub printable : ArePrintable sig depth (spine_of (drop i items))
   pub rest : out ++ args_text sig depth (spine_of (drop i items)) ≡ old ++ args_text sig depth (spine_of items)
+  pub kept : StartsWith out old
 
 pub no_args_printed : (sig : LfSignature) (depth : ℕ) (items : List Term) (all : Spine) (old : List ℕ) → spine_of items ≡ all → ArePrintable sig depth all → PrintedArgs sig depth items 0 old old
-no_args_printed sig depth items all old are printable = record { printable = rw are printable; rest = refl }
+no_args_printed sig depth items all old are printable = record { printable = rw are printable; rest = refl; kept = kept_unchanged old old refl }
 
 pub arg_printable : (sig : LfSignature) (depth : ℕ) (items : List Term) (i : ℕ) (t : Term) (old out : List ℕ) → i < length items → t ≡ get_or items i t →
     PrintedArgs sig depth items i old out → IsPrintable sig depth (term_of t)
@@ -45,6 +48,7 @@ arg_printed sig depth items i t old out new within is before here =
       printable = both.1;
       rest = ap (λ l. l ++ args_text sig depth later) here ∙ append_assoc out (argument_text sig depth (term_of t)) (args_text sig depth later)
           ∙ ap (λ s. out ++ args_text sig depth s) (sym split) ∙ before.rest;
+      kept = kept_later old out new before.kept (kept_appended out (argument_text sig depth (term_of t)) new here);
     }
 
 pub args_printed : (sig : LfSignature) (depth : ℕ) (items : List Term) (i : ℕ) (all : Spine) (old out : List ℕ) → length items ≤ i → spine_of items ≡ all →
@@ -59,10 +63,11 @@ pub record PrintedBinders (sig : LfSignature) (items : List Ty) (end : LfType) (
   pub marked : HaveAt marks place (marks_of (pis (types_of (drop i items)) end))
   pub places : place + length (marks_of (pis (types_of (drop i items)) end)) ≡ old_place + length (marks_of (pis (types_of items) end))
   pub rest : out ++ type_text sig depth (pis (types_of (drop i items)) end) ≡ old ++ type_text sig old_depth (pis (types_of items) end)
+  pub kept : StartsWith out old
 
 pub no_binders_printed : (sig : LfSignature) (items : List Ty) (bs : List LfType) (end : LfType) (marks : List Bool) (depth place : ℕ) (old : List ℕ) → types_of items ≡ bs →
     IsPrintableType sig depth (pis bs end) → HaveAt marks place (marks_of (pis bs end)) → PrintedBinders sig items end marks 0 depth depth place place old old
-no_binders_printed sig items bs end marks depth place old are printable marked = record { printable = rw are printable; marked = rw are marked; places = refl; rest = refl }
+no_binders_printed sig items bs end marks depth place old are printable marked = record { printable = rw are printable; marked = rw are marked; places = refl; rest = refl; kept = kept_unchanged old old refl }
 
 -- the binder at a place, and the rest
 binder_split : (items : List Ty) (end : LfType) (i : ℕ) (t : Ty) → i < length items → t ≡ get_or items i t →
@@ -113,6 +118,7 @@ binder_printed sig items end marks i old_depth depth old_place place old out t d
       places = omega (arith, after, before.places, ap (λ c. length (marks_of c)) split, length-append (marks_of a) (marks_of b));
       rest = ap₂ (λ l d. l ++ type_text sig d b) printed inside ∙ append_assoc out (binder_text sig depth (mentions 0 b) a) (type_text sig (suc depth) b)
           ∙ ap (λ c. out ++ type_text sig depth c) (sym split) ∙ before.rest;
+      kept = kept_later old out new before.kept (kept_appended out (binder_text sig depth (mentions 0 b) a) new printed);
     }
 
 -- the family with its arguments, at the end

@@ -1,6 +1,7 @@
 //! Printing terms and types.
 
-ghost use Rattle.std.specs.Prelude.{◌≡◌, ◌+◌, ◌<◌, ◌++◌, IfOk, OnOk, false, length, slice_index_or};
+ghost use Rattle.std.specs.Prelude.{◌≡◌, ◌+◌, ◌<◌, ◌++◌, IfOk, OnOk, OnErr, false, length, slice_index_or};
+ghost use Rattle.std.specs.Io.{StartsWith};
 ghost use Rattle.lf_terms.specs.Terms.{head_of, term_of};
 ghost use Rattle.lf_terms.specs.Types.{type_of};
 ghost use Rattle.file_print.specs.Parts.{abstracted_text, argument_text, binder_text, left_text};
@@ -14,15 +15,22 @@ use lf_terms::{Bytes, Head, NoMemory, Signature, Term, Terms, Ty};
 use std::alloc::Global;
 
 /// Adds the text of a term that stands under so many binders. It names each variable by the number of
-/// binders around its own. Its time is linear in the length of the text.
+/// binders around its own. Its time is linear in the length of the text. For want of memory `out` is as it was.
 pub fn print_term(sig: &Signature, depth: u32, term: &Term, out: &mut Bytes) -> Result<(), NoMemory>
     requires { IsPrintable sig.now depth (term_of term.now) }
-    ensures { OnOk result (out.new ≡ out.old ++ term_text sig.now depth (term_of term.now)) }
+    ensures ok { OnOk result (out.new ≡ out.old ++ term_text sig.now depth (term_of term.now)) }
+    ensures err { OnErr result (out.new ≡ out.old) }
 {
-    append_term(sig, depth, term, out)
+    let before = out.len();
+    let Err(refused) = append_term(sig, depth, term, out) else {
+        return Ok(());
+    };
+    out.truncate(before);
+    Err(refused)
 }
 
 /// Adds the text of a type that stands under so many binders. Its time is linear in the length of the text.
+/// For want of memory `out` is as it was.
 pub fn print_type(
     alloc: Global,
     sig: &Signature,
@@ -31,17 +39,23 @@ pub fn print_type(
     out: &mut Bytes,
 ) -> Result<(), NoMemory>
     requires { IsPrintableType sig.now depth (type_of ty.now) }
-    ensures { OnOk result (out.new ≡ out.old ++ type_text sig.now depth (type_of ty.now)) }
+    ensures ok { OnOk result (out.new ≡ out.old ++ type_text sig.now depth (type_of ty.now)) }
+    ensures err { OnErr result (out.new ≡ out.old) }
 {
     let marks = binder_marks(alloc, ty)?;
-    append_type(sig, depth, marks.as_slice(), 0, ty, out)?;
-    Ok(())
+    let before = out.len();
+    let Err(refused) = append_type(sig, depth, marks.as_slice(), 0, ty, out) else {
+        return Ok(());
+    };
+    out.truncate(before);
+    Err(refused)
 }
 
 #[cycle(append_term)]
 fn append_term(sig: &Signature, depth: u32, term: &Term, out: &mut Bytes) -> Result<(), NoMemory>
     requires { IsPrintable sig.now depth (term_of term.now) }
-    ensures { OnOk result (out.new ≡ out.old ++ term_text sig.now depth (term_of term.now)) }
+    ensures ok { OnOk result (out.new ≡ out.old ++ term_text sig.now depth (term_of term.now)) }
+    ensures err { OnErr result (StartsWith out.new out.old) }
 {
     match term {
         Term::Lam(body) => {
@@ -60,7 +74,8 @@ fn append_term(sig: &Signature, depth: u32, term: &Term, out: &mut Bytes) -> Res
 #[cycle(append_term)]
 fn append_args(sig: &Signature, depth: u32, args: &Terms, out: &mut Bytes) -> Result<(), NoMemory>
     requires { ArePrintable sig.now depth args.now }
-    ensures { OnOk result (out.new ≡ out.old ++ args_text sig.now depth args.now) }
+    ensures ok { OnOk result (out.new ≡ out.old ++ args_text sig.now depth args.now) }
+    ensures err { OnErr result (StartsWith out.new out.old) }
 {
     let items = args.as_slice();
     for item in items {
@@ -78,7 +93,8 @@ fn append_argument(
     out: &mut Bytes,
 ) -> Result<(), NoMemory>
     requires { IsPrintable sig.now depth (term_of term.now) }
-    ensures { OnOk result (out.new ≡ out.old ++ argument_text sig.now depth (term_of term.now)) }
+    ensures ok { OnOk result (out.new ≡ out.old ++ argument_text sig.now depth (term_of term.now)) }
+    ensures err { OnErr result (StartsWith out.new out.old) }
 {
     if is_bare(term) {
         out.push(b' ')?;
@@ -101,7 +117,8 @@ fn is_bare(term: &Term) -> bool
 
 // Adds the variable of an abstraction in brackets, and a space.
 fn append_abstracted(depth: u32, out: &mut Bytes) -> Result<(), NoMemory>
-    ensures { OnOk result (out.new ≡ out.old ++ abstracted_text depth) }
+    ensures ok { OnOk result (out.new ≡ out.old ++ abstracted_text depth) }
+    ensures err { OnErr result (StartsWith out.new out.old) }
 {
     out.push(b'[')?;
     append_variable(depth, out)?;
@@ -110,7 +127,8 @@ fn append_abstracted(depth: u32, out: &mut Bytes) -> Result<(), NoMemory>
 
 fn append_head(sig: &Signature, depth: u32, head: Head, out: &mut Bytes) -> Result<(), NoMemory>
     requires { IsPrintableHead sig.now depth (head_of head) }
-    ensures { OnOk result (out.new ≡ out.old ++ head_text sig.now depth (head_of head)) }
+    ensures ok { OnOk result (out.new ≡ out.old ++ head_text sig.now depth (head_of head)) }
+    ensures err { OnErr result (StartsWith out.new out.old) }
 {
     match head {
         Head::Bound(number) => append_variable(depth - number - 1, out),
@@ -132,7 +150,8 @@ fn append_type(
     requires printable { IsPrintableType sig.now depth (type_of ty.now) }
     requires marks { HaveAt marks.now place (marks_of (type_of ty.now)) }
     ensures place { IfOk result (λ after. after ≡ place + length (marks_of (type_of ty.now))) }
-    ensures out { OnOk result (out.new ≡ out.old ++ type_text sig.now depth (type_of ty.now)) }
+    ensures ok { OnOk result (out.new ≡ out.old ++ type_text sig.now depth (type_of ty.now)) }
+    ensures err { OnErr result (StartsWith out.new out.old) }
 {
     let binders = ty.binders.as_slice();
     let mut inside = depth;
@@ -160,7 +179,8 @@ fn append_binder(
     requires place { place < length marks.now }
     requires marks { HaveAt marks.now (place + 1) (marks_of (type_of ty.now)) }
     ensures place { IfOk result (λ after. after ≡ place + 1 + length (marks_of (type_of ty.now))) }
-    ensures out { OnOk result (out.new ≡ out.old ++ binder_text sig.now depth (slice_index_or marks.now place false) (type_of ty.now)) }
+    ensures ok { OnOk result (out.new ≡ out.old ++ binder_text sig.now depth (slice_index_or marks.now place false) (type_of ty.now)) }
+    ensures err { OnErr result (StartsWith out.new out.old) }
 {
     if marks[place] {
         out.push(b'{')?;
@@ -188,7 +208,8 @@ fn append_left(
     requires printable { IsPrintableType sig.now depth (type_of ty.now) }
     requires marks { HaveAt marks.now place (marks_of (type_of ty.now)) }
     ensures place { IfOk result (λ after. after ≡ place + length (marks_of (type_of ty.now))) }
-    ensures out { OnOk result (out.new ≡ out.old ++ left_text sig.now depth (type_of ty.now)) }
+    ensures ok { OnOk result (out.new ≡ out.old ++ left_text sig.now depth (type_of ty.now)) }
+    ensures err { OnErr result (StartsWith out.new out.old) }
 {
     if !is_function(ty) {
         return append_type(sig, depth, marks, place, ty, out);
