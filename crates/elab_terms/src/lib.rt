@@ -21,3 +21,6 @@ mod terms;
 mod types;
 
 pub use elab_fault::ElabFault;
+
+#[cfg(test)]
+mod tests;
