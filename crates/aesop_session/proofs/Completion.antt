@@ -103,9 +103,6 @@ parts_at {A = A} xs ys i x same within is =
     ∙ ap (λ (zs : List A). zs ++ drop (i + 1) xs) (sym (take_more xs i x within))
     ∙ take-append-drop (i + 1) xs ∙ same
 
-pub take_next : {A : Type 0} (xs : List A) (i : ℕ) (x : A) → i < length xs → x ≡ get_or xs i x → take i xs ++ x ∷ [] ≡ take (i + 1) xs
-take_next xs i x within is = ap (λ y. take i xs ++ y ∷ []) is ∙ sym (take_more xs i x within)
-
 -- ---- whole documents
 
 pub WritesDocument-whole : (program : SmallProgram) (held first middle after : Option (List ℕ)) (status : Status) →

@@ -1,11 +1,12 @@
 -- Binders with the levels of their names: what is kept as binders come and go.
-use Rattle.std.proofs.Common.{◌≡◌, ℕ, zero, suc, ◌-◌, ◌<◌, ◌^◌, Bool, true, false, cond, List, [], ◌∷◌, ◌++◌, length, map, get_or, set, Option, Some, None, option_map, refl, sym, ap, ap₂, ◌∙◌, subst, arith, ⊎_elim, inl, inr, length-append}
-use Rattle.std.specs.Prelude.{◌≢◌, slice_get, Result, Ok, Err, OnErr}
+use Rattle.std.proofs.Common.{◌≡◌, ℕ, suc, ◌-◌, ◌<◌, ◌^◌, Bool, true, false, cond, List, [], ◌∷◌, ◌++◌, length, map, get_or, set, Option, Some, None, option_map, refl, sym, ap, ap₂, ◌∙◌, subst, arith, ⊎_elim, inl, inr, length-append}
+use Rattle.std.specs.Prelude.{◌≢◌, Result, Ok, Err, OnErr}
 use Rattle.std.specs.Str.{bytes_eq}
 use Rattle.std.proofs.lemmas.Bool.{cases_Bool, cases_eq}
 use Rattle.std.proofs.lemmas.List.{map-append, get_or_append_left, get_or_at, get_or-set_same, get_or-set_other, length-set, length-map, get_or_read}
 use Rattle.std.proofs.lemmas.Option.{slice_get_within}
 use Rattle.std.proofs.lemmas.Slice.Eq.{bytes_eq-Decides}
+use Rattle.lf_definitions.proofs.Lists.{slice_get-front}
 use Rattle.lf_terms.specs.Places.{place_of}
 use Rattle.lf_terms.proofs.NamePlaces.{place_found}
 use Rattle.elab_terms.specs.Names.{Bound, variable_of}
@@ -49,11 +50,6 @@ variable_is (Some binder ∷ outer) name =
         cond b (Some 0) (option_map suc found) ≡ variable_at (suc (length outer)) (cond b (Some (length outer)) level)
     by true found level is = ap Some (omega arith)
     by false found level is = is
-
-slice_get-front : {X : Type 0} (xs ys : List X) (i : ℕ) (x : X) → slice_get xs i ≡ Some x → slice_get (xs ++ ys) i ≡ Some x
-slice_get-front [] ys i x e = absurd cc
-slice_get-front (y ∷ xs) ys zero x e = e
-slice_get-front (y ∷ xs) ys (suc i) x e = slice_get-front xs ys i x e
 
 pub bound_count : (names : List (List ℕ)) (binders : List (Option Named)) → length (bound_of names binders) ≡ length binders
 bound_count names binders = count_bound (map (name_of names) binders) ∙ length-map binders (name_of names)

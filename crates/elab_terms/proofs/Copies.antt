@@ -32,10 +32,6 @@ joined-joined : (ts us vs : Spine) → joined (joined ts us) vs ≡ joined ts (j
 joined-joined no_args us vs = refl
 joined-joined (arg t ts) us vs = ap (arg t) (joined-joined ts us vs)
 
-pub joined-none : (ts : Spine) → joined ts no_args ≡ ts
-joined-none no_args = refl
-joined-none (arg t ts) = ap (arg t) (joined-none ts)
-
 pub term_copied : (front : Spine) (more copies new : List Term) (i : ℕ) (t u : Term) → i < length more → t ≡ get_or more i t → new ≡ copies ++ u ∷ [] →
     spine_of copies ≡ joined front (spine_of (take i more)) → term_of u ≡ term_of t → spine_of new ≡ joined front (spine_of (take (i + 1) more))
 term_copied front more copies new i t u within is pushed before here =

@@ -16,10 +16,11 @@ use Rattle.lf_definitions.proofs.Expansion.{rename_image-same_head, rename_image
 use Rattle.lf_definitions.proofs.Types.{shape_of-rename_type, shape_of-SubstitutedType, ShapedType-SubstitutedType}
 use Rattle.lf_definitions.proofs.Telescopes.{push_all-joined, arity-arrows, arguments-arrows, Goes-push_all, Goes-up_by, next_by-bound, next_by-constant, next_by-metavariable, under_all-next_by_length}
 use Rattle.lf_definitions.proofs.Typing.{shape_of-pis, Shaped-Typed, ShapedSpine-TypedSpine}
-use Rattle.lf_definitions.proofs.Weakening.{rename_type-pis, Follows-push_all, args_count-TypedSpine, TypedSpine-rename_spine}
+use Rattle.lf_definitions.proofs.Weakening.{rename_type-pis, Follows-push_all, args_count-TypedSpine, TypedSpine-rename_spine, KeepsTypes-head}
 use Rattle.lf_definitions.proofs.Variables.{rename_type-next_by, with_context-outside, with_context-constant, with_context-metavariable}
 use Rattle.lf_definitions.proofs.TypedSpines.{rename_context-append}
 use Rattle.lf_definitions.proofs.ShapedGoals.{ShapedTyping-head, ShapedType-under_pis, ShapedContext-pis, shapes_of-under, ShapedTyping-with_variable, shapes_of-with_context}
+use Rattle.lf_definitions.proofs.Options.{Some-Some}
 use Rattle.elab_terms.specs.Terms.{expanded}
 use Rattle.elab_terms.specs.Knowing.{Founded}
 
@@ -152,11 +153,6 @@ keeps ctx kinds Γ good = (
   λ g a e. (with_context-metavariable ctx Γ g ∙ e, good.metavariables g a e),
 )
 
-keeps_head : (v : ℕ → ℕ) (Γ Δ : Typing) → KeepsTypes v Γ Δ → (h : LfHead) (a : LfType) → Γ h ≡ Some a → Δ (variables v h) ≡ Some (rename_type (variables v) a)
-keeps_head v Γ Δ kept (bound n) a e = kept.0 n a e
-keeps_head v Γ Δ kept (constant c) a e = let k = kept.1 c a e in k.0 ∙ ap Some (sym (k.1 v))
-keeps_head v Γ Δ kept (metavariable g) a e = let k = kept.2 g a e in k.0 ∙ ap Some (sym (k.1 v))
-
 -- binder by binder
 data SubstitutedContext : Replacement → Context → Context → Type 0 where
   substituted_empty : {σ : Replacement} → SubstitutedContext σ [] []
@@ -203,14 +199,11 @@ keeps_shapes ctx Θ h s e =
 Goes-raised : (ctx : Context) (Θ : Typing) (q : ℕ) (Γ : Scope) (σ : Replacement) → Goes q Γ (shapes_of Θ) σ → Goes q Γ (shapes_of (with_context ctx Θ)) (raised (length ctx) σ)
 Goes-raised ctx Θ q Γ σ goes h s e = Fits-rename (goes h s e) (next_by (length ctx)) (shapes_of (with_context ctx Θ)) (keeps_shapes ctx Θ)
 
-Some_inj : {a b : SimpleType} → ◌≡◌ {A = Option SimpleType} (Some a) (Some b) → a ≡ b
-Some_inj e = cc
-
 -- A binder's own variable, put for itself, is near to the variable that stays.
 near_own : (Γ : Scope) (σ : Replacement) (m : ℕ) (x : LfHead) (a c : SimpleType) → next_by m (bound zero) ≡ x → c ≡ a → IsNear (under a Γ) (raised m (up σ)) (push (eta x c) (raised (suc m) σ))
 near_own Γ σ m x a c place same =
     each_head (λ h. (s : SimpleType) → under a Γ h ≡ Some s → Near (raised m (up σ) h) (push (eta x c) (raised (suc m) σ) h) s)
-    (λ s e. near_eta x (ap stays place) (ap (λ d. becomes (eta x d)) (same ∙ Some_inj e)))
+    (λ s e. near_eta x (ap stays place) (ap (λ d. becomes (eta x d)) (same ∙ Some-Some e)))
     (λ h s e. near_same (ap (rename_image (next_by m)) (extended-next (stays (bound zero)) (λ k. rename_image next (σ k)) h)
     ∙ rename_image-rename_image (next_by m) next (σ h)
     ∙ sym (extended-next (becomes (eta x c)) (raised (suc m) σ) h)))
@@ -224,7 +217,7 @@ near_all (arrow a s) Γ σ τ ζ near =
     let x = next_by n (bound zero) in
     near_all s (under a Γ) (up σ) (push (eta x a) τ) (lifted ζ)
     (each_head (λ h. (c : SimpleType) → under a Γ h ≡ Some c → Near (raised n (up σ) h) (push (eta x a) τ (lifted ζ h)) c)
-    (λ c e. near_eta x refl (ap (λ d. becomes (eta x d)) (Some_inj e)))
+    (λ c e. near_eta x refl (ap (λ d. becomes (eta x d)) (Some-Some e)))
     (λ h c e. subst₂ (λ i j. Near i j c)
     (sym (ap (rename_image (next_by n)) (extended-next (stays (bound zero)) (λ k. rename_image next (σ k)) h) ∙ rename_image-rename_image (next_by n) next (σ h)))
     (sym (ap (push (eta x a) τ) (extended-next (bound zero) (λ k. next (ζ k)) h) ∙ extended-next (becomes (eta x a)) τ (ζ h)))
@@ -340,7 +333,7 @@ module _ (kinds : Kinds) (p : ℕ) (eta_typed : EtaTypedBelow kinds p) where
       (TypedSpine-joined typed_us (own_variables s) (rename_context (lifted_by k ξ) missing) typed_own) in
       let head : inside (ξ h) ≡ Some (pis (rename_context ξ (first ++ missing)) (family f (rename_spine (lifted_by (length (first ++ missing)) ξ) args))) =
       subst (λ ζ. inside (ζ h) ≡ Some (rename_type ζ (pis (first ++ missing) (family f args)))) same_renaming
-      (keeps_head v Θ inside (keeps cs kinds Θ good) h (pis (first ++ missing) (family f args)) known)
+      (KeepsTypes-head v Θ inside (keeps cs kinds Θ good) h (pis (first ++ missing) (family f args)) known)
       ∙ ap Some (rename_type-pis ξ (first ++ missing) (family f args)) in
       let ζ = lifted_by (arity s) (lifted_by k ξ) in
       let after = push_all (own_variables s) (push_all us stays) in

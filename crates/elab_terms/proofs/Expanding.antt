@@ -10,8 +10,8 @@ use Rattle.lf_definitions.proofs.Renaming.{rename_spine-same_head, SubstitutedSp
 use Rattle.lf_definitions.proofs.Telescopes.{arity-arrows, under_all-next_by_length}
 use Rattle.lf_definitions.proofs.Typing.{shape_of-pis}
 use Rattle.lf_terms.specs.Putting.{putting, Puts, ArgsShaped}
+use Rattle.lf_terms.proofs.Expansions.{joined-no_args}
 use Rattle.elab_terms.specs.Terms.{expanded}
-use Rattle.elab_terms.proofs.Copies.{joined-none}
 
 pub length-shapes_of_types : (binders : Context) → length (shapes_of_types binders) ≡ length binders
 length-shapes_of_types [] = refl
@@ -21,7 +21,7 @@ pub arity_of_type : (binders : Context) (f : ℕ) (args : Spine) → arity (shap
 arity_of_type binders f args = ap arity (shape_of-pis binders f args) ∙ arity-arrows (shapes_of_types binders) ∙ length-shapes_of_types binders
 
 pub expanded_none : (h : LfHead) (ts us : Spine) (s : SimpleType) → arity s ≡ 0 → us ≡ ts → at h us ≡ expanded h ts s
-expanded_none h ts us base none same = ap (at h) (same ∙ sym (joined-none (rename_spine (next_by 0) ts) ∙ rename_spine-same_head ts))
+expanded_none h ts us base none same = ap (at h) (same ∙ sym (joined-no_args (rename_spine (next_by 0) ts) ∙ rename_spine-same_head ts))
 expanded_none h ts us (arrow a s) none same = absurd (never (arity s) none)
   where
     never : (n : ℕ) → suc n ≡ 0 → ⊥

@@ -5,6 +5,7 @@ use Rattle.lf_definitions.specs.Syntax.{LfHead, Spine, LfType, pi, family, pis, 
 use Rattle.lf_definitions.specs.Substitution.{stays, push_all, SubstitutedType}
 use Rattle.lf_definitions.specs.Typing.{Typing, with_variable}
 use Rattle.lf_definitions.specs.Signatures.{LfSignature, kinds_in}
+use Rattle.lf_definitions.proofs.Options.{None-Some, Some_inj}
 use Rattle.file_trees.specs.declared.span.Span.{Span}
 use Rattle.file_trees.specs.Trees.{Tree, leaf, abstraction, Classifier}
 use Rattle.file_trees.specs.Trees as trees
@@ -16,7 +17,7 @@ use Rattle.elab_terms.specs.Terms.{ReadsArguments, RefusesTerm, refuses_abstract
 use Rattle.elab_terms.specs.Types.{IsBinder, ReadsType, RefusesType, refuses_binder, refuses_domain, refuses_rest, refuses_family, refuses_word, refuses_few, refuses_family_argument, refuses_family_extra}
 use Rattle.elab_terms.specs.declared.elab_fault.ElabFault.{ElabFault}
 use Rattle.elab_terms.specs.declared.elab_fault.ElabFault.TheVariants.{TooMany, Unknown, Redex, IllTyped}
-use Rattle.elab_terms.proofs.ReadOnce.{None-Some, Some_inj, leaf-abstraction, leaf_inj, abstraction_span, abstraction_body, same_head, same_known, same_binders, same_end, same_binder, no_binder}
+use Rattle.elab_terms.proofs.ReadOnce.{leaf-abstraction, leaf_inj, abstraction_span, abstraction_body, same_head, same_known, same_binders, same_end, same_binder, no_binder}
 
 -- An abstraction, by its arguments and the type that is wanted.
 abbrev pub FaultOfAbstraction : Text → LfSignature → Bound → Typing → Span → Tree → List Tree → LfType → ElabFault → Type 0

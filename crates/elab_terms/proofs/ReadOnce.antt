@@ -1,23 +1,18 @@
 -- What is read from a tree is one.
-use Rattle.std.proofs.Common.{◌≡◌, ℕ, suc, Option, Some, None, List, [], ◌∷◌, ◌++◌, length, refl, sym, ap, ap₂, ◌∙◌, subst, subst₂, arith}
-use Rattle.lf_definitions.specs.Syntax.{LfHead, LfTerm, lam, Spine, arg, shape_of, LfType, pi, family, pis, LfKind}
+use Rattle.std.proofs.Common.{◌≡◌, ℕ, suc, Option, Some, List, [], ◌∷◌, ◌++◌, length, refl, sym, ap, ap₂, ◌∙◌, subst, subst₂, arith}
+use Rattle.lf_definitions.specs.Syntax.{LfHead, LfTerm, lam, Spine, arg, shape_of, LfType, pi, family, pis, LfKind, conclusion}
 use Rattle.lf_definitions.specs.Substitution.{Replacement, stays, push}
 use Rattle.lf_definitions.specs.Typing.{Typing, with_variable}
 use Rattle.lf_definitions.specs.Signatures.{LfSignature, kinds_in}
 use Rattle.lf_definitions.proofs.Uniqueness.{unique_type}
-use Rattle.lf_definitions.proofs.Failures.{binders_of, binders_of-pis, family_of, family_of-pis, family_args_of, family_args_of-pis}
+use Rattle.lf_definitions.proofs.Failures.{binders_of, binders_of-pis, conclusion-pis, family_args_of, family_args_of-pis}
+use Rattle.lf_definitions.proofs.Options.{Some_inj}
 use Rattle.file_trees.specs.declared.span.Span.{Span}
 use Rattle.file_trees.specs.Trees.{Tree, leaf, abstraction, Classifier}
 use Rattle.file_trees.specs.Trees as trees
 use Rattle.elab_terms.specs.Names.{Text, text_at, binder_name, Bound, head_of}
 use Rattle.elab_terms.specs.Terms.{expanded, ReadsTerm, reads_abstraction, reads_application, ReadsArguments, reads_none, reads_argument}
 use Rattle.elab_terms.specs.Types.{IsBinder, pi_binder, arrow_binder, ReadsType, reads_binder, reads_family, ReadsKind, reads_type_word, reads_kind_binder}
-
-pub None-Some : {A : Type 0} {o : Option A} {x : A} → o ≡ None → o ≡ Some x → ⊥
-None-Some e f = cc
-
-pub Some_inj : {A : Type 0} {o : Option A} {x y : A} → o ≡ Some x → o ≡ Some y → x ≡ y
-Some_inj e f = cc
 
 -- A tree has one head and one list of arguments.
 pub leaf-abstraction : {tree : Tree} {span other : Span} {body : Tree} → tree ≡ leaf span → tree ≡ abstraction other body → ⊥
@@ -46,7 +41,7 @@ same_binders bs cs f g args other e = sym (binders_of-pis bs f args) ∙ ap bind
 
 pub same_end : (bs cs : List LfType) (f g : ℕ) (args other : Spine) → pis bs (family f args) ≡ pis cs (family g other) → family f args ≡ family g other
 same_end bs cs f g args other e =
-    ap₂ family (sym (family_of-pis bs f args) ∙ ap family_of e ∙ family_of-pis cs g other)
+    ap₂ family (sym (conclusion-pis bs f args) ∙ ap conclusion e ∙ conclusion-pis cs g other)
     (sym (family_args_of-pis bs f args) ∙ ap family_args_of e ∙ family_args_of-pis cs g other)
 
 -- A list is split in one way after so many entries.

@@ -7,6 +7,7 @@ use Rattle.lf_definitions.specs.Substitution.{Replacement, stays, push, push_all
 use Rattle.lf_definitions.specs.Typing.{Typing, with_variable}
 use Rattle.lf_definitions.specs.Signatures.{LfSignature}
 use Rattle.lf_definitions.proofs.Uniqueness.{unique_type}
+use Rattle.lf_definitions.proofs.Options.{Some_inj}
 use Rattle.file_trees.specs.declared.span.Span.{Span}
 use Rattle.file_trees.specs.Trees.{Tree, Classifier}
 use Rattle.file_trees.specs.Trees as trees
@@ -16,7 +17,7 @@ use Rattle.elab_terms.specs.Terms.{ReadsTerm, reads_abstraction, reads_applicati
 use Rattle.elab_terms.specs.Types.{ReadsType, reads_binder, reads_family, RefusesType, refuses_binder, refuses_domain, refuses_rest, refuses_family, refuses_word, refuses_few, refuses_family_argument, refuses_family_extra, ReadsKind, reads_type_word, reads_kind_binder, RefusesKind, refuses_kind_domain, refuses_kind_rest, refuses_kind_family}
 use Rattle.elab_terms.specs.declared.elab_fault.ElabFault.{ElabFault}
 use Rattle.elab_terms.specs.declared.elab_fault.ElabFault.TheVariants.{TooMany, Unknown, IllTyped}
-use Rattle.elab_terms.proofs.ReadOnce.{Some_inj, same_first, same_missing, length-ReadsArguments, unique_term, unique_arguments, same_binder, no_binder, no_word_binder, unique_read_type}
+use Rattle.elab_terms.proofs.ReadOnce.{same_first, same_missing, length-ReadsArguments, unique_term, unique_arguments, same_binder, no_binder, no_word_binder, unique_read_type}
 use Rattle.elab_terms.proofs.FaultCases.{fault_of_abstraction, fault_of_name, FaultOfApplication, extra_argument, wrong_argument, wrong_result, fault_of_application, FaultOfBinder, one_too_many, wrong_domain, wrong_rest, fault_of_binder, fault_of_unknown, FaultOfFamily, few_arguments, wrong_family_argument, extra_family_argument, fault_of_family}
 
 within : {X : Type 0} (xs : List X) (i : ℕ) (x : X) → slice_get xs i ≡ Some x → i < length xs

@@ -11,7 +11,7 @@ use Rattle.lf_definitions.specs.Laws.{variables}
 use Rattle.lf_definitions.proofs.Renaming.{extended-next, each_head}
 use Rattle.lf_definitions.proofs.Totality.{Goes, Goes-more, Goes-stays, Goes-push}
 use Rattle.lf_definitions.proofs.Types.{shape_of-SubstitutedType, ShapedType-SubstitutedType}
-use Rattle.lf_definitions.proofs.Typing.{ShapedType-Formed, Shaped-Typed}
+use Rattle.lf_definitions.proofs.Typing.{ShapedType-Formed, Shaped-Typed, shaped_argument, shaped_result}
 use Rattle.lf_definitions.proofs.ShapedGoals.{ShapedTyping-head, ShapedTyping-family, ShapedContext-pis, shapes_of-under, ShapedSignature-FormedSignature, ShapedTyping-typing_in}
 use Rattle.lf_kernel.proofs.Openings.{no_goals_shaped}
 use Rattle.file_trees.specs.Trees.{Tree, Classifier}
@@ -20,12 +20,6 @@ use Rattle.elab_terms.specs.Terms.{ReadsTerm, reads_abstraction, reads_applicati
 use Rattle.elab_terms.specs.Types.{ReadsType, reads_binder, reads_family, ReadsKind, reads_type_word, reads_kind_binder}
 use Rattle.elab_terms.specs.Knowing.{Founded}
 use Rattle.elab_terms.proofs.EtaTyping.{Founded-with_variable, expanded_typed}
-
-shaped_argument : {kinds : ℕ → Option SimpleType} {Γ : Scope} {a b : LfType} → ShapedType kinds Γ (pi a b) → ShapedType kinds Γ a
-shaped_argument (shaped_pi p q) = p
-
-shaped_result : {kinds : ℕ → Option SimpleType} {Γ : Scope} {a b : LfType} → ShapedType kinds Γ (pi a b) → ShapedType kinds (under (shape_of a) Γ) b
-shaped_result (shaped_pi p q) = q
 
 shaped_first : {kinds : ℕ → Option SimpleType} {Γ : Scope} (first missing : Context) → ShapedContext kinds Γ (first ++ missing) → ShapedContext kinds Γ first
 shaped_first [] missing p = shaped_empty

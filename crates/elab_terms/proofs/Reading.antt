@@ -6,15 +6,17 @@ use Rattle.std.proofs.lemmas.List.{take-append-drop}
 use Rattle.std.proofs.lemmas.List.Quantifiers.{position-Some}
 use Rattle.lf_definitions.specs.Syntax.{LfHead, bound, constant, LfTerm, lam, Spine, no_args, arg, args_count, joined, SimpleType, shape_of, LfType, pi, family, pis, Context}
 use Rattle.lf_definitions.specs.Renaming.{raise_type, next_by, Renaming, lifted, lifted_by, rename_spine, rename_type, rename_context}
-use Rattle.lf_definitions.specs.Shaping.{Scope, under, ShapedType, shaped_pi}
+use Rattle.lf_definitions.specs.Shaping.{Scope, ShapedType}
 use Rattle.lf_definitions.specs.Substitution.{Replacement, stays, push, push_all, SubstitutedType}
 use Rattle.lf_definitions.specs.Typing.{Typing, with_variable, TypedSpine, type_at, typed_globals, shapes_of}
-use Rattle.lf_definitions.specs.Signatures.{LfSignature, family_entry, constant_entry, kinds_in, constant_names, constant_types}
+use Rattle.lf_definitions.specs.Signatures.{LfSignature, kinds_in, constant_names, constant_types}
 use Rattle.lf_definitions.specs.ShapedGoals.{ShapedContext, shaped_empty, shaped_entry, kind_shapes_in}
 use Rattle.lf_definitions.proofs.Totality.{Goes-stays}
 use Rattle.lf_definitions.proofs.Weakening.{rename_type-pis}
 use Rattle.lf_definitions.proofs.TypedSpines.{SubstitutedType-renamed_outside}
 use Rattle.lf_definitions.proofs.ShapedGoals.{shapes_of-under}
+use Rattle.lf_definitions.proofs.Counts.{length-constant_names}
+use Rattle.lf_definitions.proofs.Typing.{shaped_argument, shaped_result}
 use Rattle.lf_terms.specs.declared.ty.Ty.{Ty}
 use Rattle.lf_terms.specs.Types.{type_of, types_of}
 use Rattle.lf_terms.specs.Places.{place_of}
@@ -80,12 +82,6 @@ known_under sig Γ Δ binders new name a typing are known shaped = record {
   have_types = subst₂ HaveTypes (sym are) (sym typing) (have_types_under binders name Γ a known.have_types);
 }
 
-shaped_argument : {kinds : ℕ → Option SimpleType} {Γ : Scope} {a b : LfType} → ShapedType kinds Γ (pi a b) → ShapedType kinds Γ a
-shaped_argument (shaped_pi p q) = p
-
-shaped_result : {kinds : ℕ → Option SimpleType} {Γ : Scope} {a b : LfType} → ShapedType kinds Γ (pi a b) → ShapedType kinds (under (shape_of a) Γ) b
-shaped_result (shaped_pi p q) = q
-
 pub wanted_binder : (sig : LfSignature) (Γ : Typing) (wanted a b : LfType) → wanted ≡ pi a b → IsWanted sig Γ wanted → IsWanted sig Γ a
 wanted_binder sig Γ wanted a b is shaped = shaped_argument (subst (IsWanted sig Γ) is shaped)
 
@@ -141,11 +137,6 @@ variable_within (None ∷ binders) name n e = raised_within (variable_of binders
 variable_within (Some binder ∷ binders) name n e =
     here_within (bytes_eq name binder) (variable_of binders name) n (length binders) e (λ m f. variable_within binders name m f)
 
-constants_count : (sig : LfSignature) → length (constant_names sig) ≡ length (constant_types sig)
-constants_count [] = refl
-constants_count (family_entry name kind ∷ sig) = constants_count sig
-constants_count (constant_entry name type ∷ sig) = ap suc (constants_count sig)
-
 some_type : (types : List LfType) (c : ℕ) → c < length types → (a : LfType) × (type_at types c ≡ Some a)
 some_type [] c within = absurd (omega arith)
 some_type (a ∷ types) zero within = (a, refl)
@@ -168,7 +159,7 @@ head_typed sig scope binders name h known e = by_variable (variable_of binders n
     by_constant (Some c) is f =
         let same : constant c ≡ h = cc in
         let within = (position-Some (bytes_eq name) (constant_names sig) c [] is).0 in
-        let typed = some_type (constant_types sig) c (omega (arith, within, constants_count sig)) in
+        let typed = some_type (constant_types sig) c (omega (arith, within, length-constant_names sig)) in
         (typed.0, ap Γ (sym same) ∙ typing_under-constant scope (typed_globals (constant_types sig) []) c ∙ typed.1)
 
     by_variable : (found : Option ℕ) → variable_of binders name ≡ found → HasType Γ h

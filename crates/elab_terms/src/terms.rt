@@ -135,7 +135,7 @@ fn read_application<'a>(
     ensures refused { IfErr result (IsRefusal (RefusesTerm (text_in source.now) sig.now names.old (typing_of sig.now scope.now) (tree_of tree.now) (type_of wanted.now))) }
     ensures names { OnOk result (names.new ≡ names.old) }
 {
-    let Some(head) = head_named(alloc, sig, names, text(source, span))? else {
+    let Some(head) = head_named(sig, names, text(source, span)) else {
         return Err(ElabFault::Unknown(span.start));
     };
     let Some(found) = type_of_head(sig, metas, scope, head)? else {

@@ -81,7 +81,7 @@ pub fn read_family<'a>(
     ensures refused { IfErr result (IsRefusal (λ fault. (count : ℕ) → RefusesType (text_in source.now) sig.now names.old (typing_of sig.now scope.now) count (family span arguments.now) fault)) }
     ensures names { OnOk result (names.new ≡ names.old) }
 {
-    let Some(number) = family_at(alloc, sig, names, text(source, span))? else {
+    let Some(number) = family_at(sig, names, text(source, span)) else {
         return Err(ElabFault::Unknown(span.start));
     };
     if number >= sig.families() {

@@ -1,5 +1,5 @@
 -- The constants of a list of constructors by their names, one more at a time.
-use Rattle.std.proofs.Common.{◌≡◌, ℕ, suc, ◌+◌, ◌<◌, ◌≤◌, Bool, true, false, cond, not, List, [], ◌∷◌, ◌++◌, length, get_or, take, drop, Some, None, refl, sym, ap, ◌∙◌, subst, arith, length-append, append_assoc, take_all}
+use Rattle.std.proofs.Common.{◌≡◌, ℕ, ◌+◌, ◌<◌, ◌≤◌, true, false, cond, List, [], ◌∷◌, ◌++◌, length, get_or, take, drop, Some, None, refl, sym, ap, ◌∙◌, subst, arith, length-append, append_assoc, take_all}
 use Rattle.std.specs.Prelude.{Err, Contains, nat_eq}
 use Rattle.std.specs.List.{list_any, All}
 use Rattle.std.proofs.lemmas.Bool.{eqb-true}
@@ -8,7 +8,8 @@ use Rattle.std.specs.Cmp.{nat_eq_equiv}
 use Rattle.std.proofs.lemmas.Map.Views.{Contains-from_any, list_any-from_Contains}
 use Rattle.std.proofs.lemmas.Option.{slice_get-get_or, slice_get_within}
 use Rattle.indexmap.specs.IndexSet.{insert_key}
-use Rattle.lf_definitions.specs.Signatures.{LfSignature, family_entry, constant_entry, family_names, family_kinds, constant_names, constant_types}
+use Rattle.lf_definitions.specs.Signatures.{LfSignature, family_names, family_kinds, constant_names, constant_types}
+use Rattle.lf_definitions.proofs.Counts.{length-family_names}
 use Rattle.lf_terms.specs.Places.{place_of}
 use Rattle.lf_terms.proofs.NamePlaces.{place_found}
 use Rattle.file_trees.specs.declared.span.Span.{Span}
@@ -18,16 +19,23 @@ use Rattle.rule_sets.specs.Refusals.{AddsList, AreConstructors, HasFamily, IsFir
 use Rattle.rule_sets.specs.declared.rule.CtorFault.{CtorFault}
 use Rattle.rule_sets.specs.declared.rule.CtorFault.TheVariants.{Repeated}
 use Rattle.rule_sets.proofs.Constructors.{good_more}
+use Rattle.elab_terms.specs.Knowing.{IsRefusal}
 use Rattle.elab_terms.specs.Names.{Text, text_at}
 use Rattle.elab_terms.specs.declared.elab_fault.ElabFault.{ElabFault}
+use Rattle.elab_terms.specs.declared.elab_fault.ElabFault.TheVariants.{Taken, TooMany, Unknown, Redex, IllTyped, BadRule, NoMemory}
 use Rattle.file_elab.specs.Programming.{program_with, DeclaresInBook, RefusesInBook}
 use Rattle.file_elab.specs.Programs.{AreNumbers, no_number, one_number, Declares, declares_constructors, refuses_listed_name, refuses_listed_again, refuses_listed_other}
 use Rattle.file_elab.specs.Constructors.{RefusesNext, next_unknown, next_again, next_other, RefusesList}
 
-length-family_names : (sig : LfSignature) → length (family_names sig) ≡ length (family_kinds sig)
-length-family_names [] = refl
-length-family_names (family_entry name kind ∷ sig) = ap suc (length-family_names sig)
-length-family_names (constant_entry name type ∷ sig) = length-family_names sig
+-- What refuses whatever the fault, refuses where memory is not wanted.
+pub refusal_of : (P : ElabFault → Type 0) (fault : ElabFault) → P fault → IsRefusal P fault
+refusal_of P (Taken n) p = p
+refusal_of P (TooMany n) p = p
+refusal_of P (Unknown n) p = p
+refusal_of P (Redex n) p = p
+refusal_of P (IllTyped n) p = p
+refusal_of P (BadRule n) p = p
+refusal_of P NoMemory p = tt
 
 pub family_within : (sig : LfSignature) (name : List ℕ) (f : ℕ) → place_of (family_names sig) name ≡ Some f → f < length (family_kinds sig)
 family_within sig name f e = omega (arith, slice_get_within (family_names sig) f name (place_found name (family_names sig) f e), length-family_names sig)
@@ -56,14 +64,6 @@ pub not_repeated : (sig : LfSignature) (book new : Book) (f : ℕ) (constants : 
     fault ≡ Repeated place → AddsList sig book f constants (Err fault) new → ⊥
 not_repeated sig book new f constants fault place none good is adds =
     let P : CtorFault → Type 0 = λ fault. AddsList sig book f constants (Err fault) new in no_fault sig book f constants (Repeated place) none good (subst P is adds).0
-
-pub was_seen : (b new : Bool) → new ≡ not b → new ≡ false → b ≡ true
-was_seen true new is old = cc
-was_seen false new is old = absurd cc
-
-pub was_unseen : (b new : Bool) → new ≡ not b → new ≡ true → b ≡ false
-was_unseen true new is old = absurd cc
-was_unseen false new is old = cc
 
 numbers_more : (text : Text) (sig : LfSignature) (spans : List Span) (span : Span) (constants : List ℕ) (c : ℕ) → AreNumbers text sig spans constants →
     place_of (constant_names sig) (text_at text span) ≡ Some c → AreNumbers text sig (spans ++ span ∷ []) (constants ++ c ∷ [])

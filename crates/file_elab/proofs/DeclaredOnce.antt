@@ -1,6 +1,7 @@
 -- What declarations make of a program is one.
 use Rattle.std.proofs.Common.{◌≡◌, ℕ, Option, ℤ, pos, List, [], ◌∷◌, ◌++◌, refl, sym, ap, ap₂, ◌∙◌, subst}
 use Rattle.lf_definitions.specs.Signatures.{LfSignature, family_entry, constant_entry}
+use Rattle.lf_definitions.proofs.Options.{Some_inj}
 use Rattle.file_trees.specs.declared.span.Span.{Span}
 use Rattle.file_trees.specs.declared.decl_tree.DeclTree.{DeclTree}
 use Rattle.file_trees.specs.declared.decl_tree.PhaseWord.{PhaseWord}
@@ -11,7 +12,7 @@ use Rattle.rule_sets.specs.declared.rule.Builder.TheVariants.{Apply, Constructor
 use Rattle.rule_sets.specs.declared.rule.Rule.{Rule}
 use Rattle.rule_sets.specs.Books.{Book}
 use Rattle.elab_terms.specs.Names.{Text, text_at}
-use Rattle.elab_terms.proofs.ReadOnce.{Some_inj, unique_read_type, unique_read_kind}
+use Rattle.elab_terms.proofs.ReadOnce.{unique_read_type, unique_read_kind}
 use Rattle.file_elab.specs.Rules.{ReadsPhase, reads_norm, reads_safe, reads_unsafe, builder_of, IsMajorNumber, major_value, ReadsRule}
 use Rattle.file_elab.specs.Programs.{LfProgram, AreNumbers, no_number, one_number, Declares, declares_family, declares_constant, declares_theorem, declares_rule, declares_constructors, DeclaresAll, declares_nothing, declares_next}
 

@@ -2,6 +2,7 @@
 use Rattle.std.proofs.Common.{◌≡◌, ℕ, Option, Some, None, ◌⊎◌, inl, inr, List, [], ◌∷◌, ◌++◌, length, take, Contains, slice_get, refl, sym, ap, ap₂, ◌∙◌, subst, subst₂, arith}
 use Rattle.lf_terms.specs.Places.{place_of}
 use Rattle.lf_definitions.specs.Signatures.{LfSignature, names_of, family_names, constant_names, typing_in}
+use Rattle.lf_definitions.proofs.Options.{None-Some, Some_inj}
 use Rattle.file_trees.specs.declared.span.Span.{Span}
 use Rattle.file_trees.specs.declared.decl_tree.DeclTree.{DeclTree}
 use Rattle.file_trees.specs.declared.decl_tree.DeclTree.TheVariants.{Family, Const, Theorem, Rule as rule_tree, Ctors}
@@ -15,7 +16,6 @@ use Rattle.elab_terms.specs.Names.{Text, text_at}
 use Rattle.elab_terms.specs.Types.{RefusesType, RefusesKind}
 use Rattle.elab_terms.specs.declared.elab_fault.ElabFault.{ElabFault}
 use Rattle.elab_terms.specs.declared.elab_fault.ElabFault.TheVariants.{Taken, Unknown, BadRule}
-use Rattle.elab_terms.proofs.ReadOnce.{None-Some, Some_inj}
 use Rattle.elab_terms.proofs.ReadOrRefused.{read_type_not_refused, one_fault_of_type, read_kind_not_refused, one_fault_of_kind}
 use Rattle.file_elab.specs.Rules.{ReadsRule, RefusesRule, refuses_number, refuses_subject, refuses_major, refuses_premises, builder_of, HasMajor, major_value}
 use Rattle.file_elab.specs.Programs.{LfProgram, rule_names, theorem_names, MayBeNamed, RefusesName, refuses_taken, refuses_many, most_symbols, most_rules, most_theorems, AreNumbers, no_number, one_number, Declares, declares_family, declares_constant, declares_theorem, declares_rule, declares_constructors, Refuses, refuses_family_name, refuses_family_kind, refuses_constant_name, refuses_constant_type, refuses_theorem_name, refuses_theorem_type, refuses_rule_name, refuses_rule_part, refuses_listed_family, refuses_listed, refuses_listed_name, refuses_listed_again, refuses_listed_other}

@@ -1,6 +1,6 @@
 -- Small letters, where they are some and not `type`, are a name of the grammar.
-use Rattle.std.proofs.Common.{◌≡◌, ℕ, ◌≤◌, Bool, true, false, List, [], ◌∷◌, ◌++◌, length, refl, sym, ap, ◌∙◌, arith}
-use Rattle.std.specs.Prelude.{codes, encode_utf8_all, ◌&&◌}
+use Rattle.std.proofs.Common.{◌≡◌, ℕ, ◌≤◌, true, false, List, [], ◌∷◌, ◌++◌, length, refl, sym, ap, ◌∙◌, arith}
+use Rattle.std.specs.Prelude.{codes, encode_utf8_all}
 use Rattle.std.specs.Char.{IsScalar, is_ascii_lowercase}
 use Rattle.std.specs.List.{AllByRecursion, list_all}
 use Rattle.std.proofs.lemmas.Bool.{false≢true}
@@ -10,14 +10,11 @@ use Rattle.std.proofs.lemmas.Str.{encode_ascii}
 use Rattle.std.specs.Str.{bytes_eq}
 use Rattle.unicode_ident.proofs.IdentLemmas.{is_xid_start-ascii, is_xid_continue-ascii}
 use Rattle.lex_text.specs.Characters.{MayStart, MayContinue}
+use Rattle.lex_text.proofs.Utf8.{both_true}
 use Rattle.file_elab.specs.GrammarNames.{IsGrammarName}
 
 abbrev IsLetter : ℕ → Type 0
 IsLetter c = is_ascii_lowercase c ≡ true
-
-both_true : (a b : Bool) → (a && b) ≡ true → (a ≡ true) × (b ≡ true)
-both_true true b e = (refl, e)
-both_true false b e = cc
 
 are_letters : (cs : List ℕ) → list_all is_ascii_lowercase cs ≡ true → AllByRecursion IsLetter cs
 are_letters [] e = tt

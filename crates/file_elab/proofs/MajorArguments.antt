@@ -6,15 +6,13 @@ use Rattle.std.proofs.lemmas.Option.{slice_get_within}
 use Rattle.lf_definitions.specs.Syntax.{LfType, pi, family, pis, Spine}
 use Rattle.lf_definitions.specs.Signatures.{LfSignature, constant_types}
 use Rattle.lf_definitions.specs.Typing.{type_at}
+use Rattle.lf_definitions.proofs.Options.{Some-Some}
 use Rattle.rule_sets.specs.declared.rule.Builder.{Builder}
 use Rattle.rule_sets.specs.declared.rule.Builder.TheVariants.{Apply, Constructors, Cases, Forward, Destruct, Assumption, Hyps}
 use Rattle.rule_sets.specs.Refusals.{IsAtomic, argument_at, IsMajor, IsBadMajor}
 use Rattle.rule_sets.proofs.Types.{argument_at-pis}
 use Rattle.file_elab.specs.Rules.{IsMajorNumber, HasMajor}
 use Rattle.file_elab.specs.ReadRules.{FitsMajor}
-
-Some_inj : {a b : LfType} → ◌≡◌ {A = Option LfType} (Some a) (Some b) → a ≡ b
-Some_inj e = cc
 
 pos_inj : {a b : ℕ} → pos a ≡ pos b → a ≡ b
 pos_inj e = cc
@@ -32,14 +30,14 @@ module _ (sig : LfSignature) (subject : ℕ) where
   atomic_decided (family f args) = inl tt
 
   argument_of : (type : LfType) (place : ℕ) → slice_get (constant_types sig) subject ≡ Some type → (m : IsMajor sig subject (suc place)) → argument_at type place ≡ Some m.argument
-  argument_of type place is m = ap₂ argument_at (Some_inj (sym is ∙ m.type_is)) (suc_inj m.place_is) ∙ m.argument_is
+  argument_of type place is m = ap₂ argument_at (Some-Some (sym is ∙ m.type_is)) (suc_inj m.place_is) ∙ m.argument_is
 
   with_argument : (type : LfType) (place : ℕ) → slice_get (constant_types sig) subject ≡ Some type → (o : Option LfType) → argument_at type place ≡ o → Decided (suc place)
   with_argument type place is None none = inr (λ m. let clash : ◌≡◌ {A = Option LfType} None (Some m.argument) = sym none ∙ argument_of type place is m in absurd cc)
   with_argument type place is (Some a) some =
       elim (atomic_decided a) [
         | inl atomic ↦ inl (record { type = type; place = place; argument = a; type_is = is; place_is = refl; argument_is = some; atomic = atomic })
-        | inr other ↦ inr (λ m. let P : LfType → Type 0 = IsAtomic in other (subst P (Some_inj (sym (argument_of type place is m) ∙ some)) m.atomic))
+        | inr other ↦ inr (λ m. let P : LfType → Type 0 = IsAtomic in other (subst P (Some-Some (sym (argument_of type place is m) ∙ some)) m.atomic))
       ]
 
   with_type : (type : LfType) (major : ℕ) → slice_get (constant_types sig) subject ≡ Some type → Decided major
@@ -93,7 +91,7 @@ type_at-slice_get (t ∷ types) (suc k) = type_at-slice_get types k
 within : (sig : LfSignature) (subject : ℕ) (bs : List LfType) (f : ℕ) (args : Spine) (major : ℕ) → type_at (constant_types sig) subject ≡ Some (pis bs (family f args)) →
     (m : IsMajor sig subject major) → m.place < length bs
 within sig subject bs f args major is m =
-    let same : pis bs (family f args) ≡ m.type = Some_inj (sym is ∙ type_at-slice_get (constant_types sig) subject ∙ m.type_is) in
+    let same : pis bs (family f args) ≡ m.type = Some-Some (sym is ∙ type_at-slice_get (constant_types sig) subject ∙ m.type_is) in
     slice_get_within bs m.place m.argument (sym (argument_at-pis bs f args m.place) ∙ ap (λ t. argument_at t m.place) same ∙ m.argument_is)
 
 -- The arguments of a constant have numbers of 32 bits, if its type has fewer binders.

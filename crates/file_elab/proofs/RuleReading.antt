@@ -4,6 +4,7 @@ use Rattle.std.proofs.lemmas.List.{length-map}
 use Rattle.std.specs.Prelude.{Contains, ℤ}
 use Rattle.std.proofs.lemmas.Option.{slice_get_within}
 use Rattle.lf_definitions.specs.Signatures.{LfSignature, constant_names, constant_types, family_names}
+use Rattle.lf_definitions.proofs.Counts.{length-constant_names}
 use Rattle.lf_terms.specs.Places.{place_of}
 use Rattle.lf_terms.proofs.NamePlaces.{place_found}
 use Rattle.file_trees.specs.declared.span.Span.{Span}
@@ -18,7 +19,6 @@ use Rattle.rule_sets.specs.declared.rule.RuleFault.TheVariants.{BadMajor, Premis
 use Rattle.rule_sets.specs.Books.{Book, list_of}
 use Rattle.rule_sets.specs.Refusals.{IsNoPercent, HasNoSubject, IsBadMajor, HasBadPremises, IsRuleOver, Adds, IsFirstFault, bad_major, premises}
 use Rattle.rule_sets.specs.Tests.{IsChosen, IsFree}
-use Rattle.rule_sets.proofs.Constructors.{length-constant_names}
 use Rattle.rule_sets.proofs.NamePlaces.{not_contained}
 use Rattle.elab_terms.specs.Knowing.{IsRefusal}
 use Rattle.elab_terms.specs.Names.{Text, text_at}
@@ -102,10 +102,10 @@ module _ (text : Text) (sig : LfSignature) (book : Book) (phase : PhaseWord) (nu
   phase_refused fault e = let P : ElabFault → Type 0 = IsRefusal Refused in subst P (sym e.0) (refuses_number e.1)
 
   pub subject_refused : (chosen : Builder) (fault : ElabFault) → chosen ≡ builder_of builder → HasPhase text phase number →
-      IsRefusal (RefusesSubject text sig book chosen subject) fault → IsRefusal Refused fault
-  subject_refused chosen fault is has =
-      IsRefusal-map (RefusesSubject text sig book chosen subject) Refused
-      (λ other e. subst Refused (sym e.0) (refuses_subject has (ap (λ b. subject_of sig book b (text_at text subject)) (sym is) ∙ e.1))) fault
+      RefusesSubject text sig book chosen subject fault → IsRefusal Refused fault
+  subject_refused chosen fault is has e =
+      let P : ElabFault → Type 0 = IsRefusal Refused in
+      subst P (sym e.0) (refuses_subject has (ap (λ b. subject_of sig book b (text_at text subject)) (sym is) ∙ e.1))
 
   pub major_refused : (chosen : Builder) (found : ℕ) (fault : ElabFault) → chosen ≡ builder_of builder → HasPhase text phase number →
       subject_of sig book chosen (text_at text subject) ≡ Some found → IsRefusal (RefusesMajor text sig chosen found subject major) fault → IsRefusal Refused fault

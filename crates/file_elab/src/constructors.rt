@@ -40,7 +40,7 @@ pub fn declare_constructors(
     ensures refused { IfErr result (IsRefusal (RefusesInBook (text_in source.now) sig.now book.old (declarations.Ctors name spans.now))) }
     ensures over { OnOk result (IsOver sig.now book.old → IsOver sig.now book.new) }
 {
-    match unlisted_family(alloc, source, sig, &*book, name) {
+    match unlisted_family(source, sig, &*book, name) {
         Err(fault) => Err(fault),
         Ok(family) => match read_constructors(alloc, source, sig, family, spans.as_slice()) {
             Err(fault) => Err(fault),
@@ -51,7 +51,6 @@ pub fn declare_constructors(
 
 // The family of the name, if it has no list of constructors.
 fn unlisted_family(
-    alloc: Global,
     source: &Source<'_>,
     sig: &Signature,
     book: &RuleBook,
@@ -59,9 +58,9 @@ fn unlisted_family(
 ) -> Result<u32, ElabFault>
     ensures family { IfOk result (λ family. place_of (family_names sig.now) (text_at (text_in source.now) name) ≡ Some family) }
     ensures unlisted { IfOk result (λ family. list_of book.now.lists family ≡ None) }
-    ensures refused { (spans : List Span) → IfErr result (IsRefusal (RefusesInBook (text_in source.now) sig.now book.now (declarations.Ctors name spans))) }
+    ensures refused { (spans : List Span) → IfErr result (RefusesInBook (text_in source.now) sig.now book.now (declarations.Ctors name spans)) }
 {
-    let Some(family) = family_named(alloc, sig, text(source, name))? else {
+    let Some(family) = family_named(sig, text(source, name)) else {
         return Err(ElabFault::Unknown(name.start));
     };
     if book.ctors(family).is_some() {
@@ -86,7 +85,7 @@ fn read_constructors(
     let mut constants = Ids::new(alloc);
     for i in 0..spans.len() {
         let span = spans[i];
-        let Some(constant) = constant_named(alloc, sig, text(source, span))? else {
+        let Some(constant) = constant_named(sig, text(source, span)) else {
             return Err(ElabFault::Unknown(span.start));
         };
         let (_, is_new) = passed.insert_full(constant)?;

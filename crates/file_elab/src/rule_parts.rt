@@ -55,25 +55,20 @@ pub fn read_builder(word: BuildWord) -> Builder
     }
 }
 
-/// The constant that a rule is made of, or for constructors the family with a list of them.
-pub fn read_subject(
-    alloc: Global,
-    sig: &Signature,
-    book: &RuleBook,
-    builder: Builder,
-    name: &[u8],
-) -> Result<Option<u32>, NoMemory>
-    ensures { IfOk result (λ found. found ≡ subject_of sig.now book.now builder name.now) }
+/// The constant that a rule is made of, or for constructors the family with a list of them. It takes no
+/// memory.
+pub fn read_subject(sig: &Signature, book: &RuleBook, builder: Builder, name: &[u8]) -> Option<u32>
+    ensures { result ≡ subject_of sig.now book.now builder name.now }
 {
     match builder {
-        Builder::Constructors => match family_named(alloc, sig, name)? {
-            None => Ok(None),
+        Builder::Constructors => match family_named(sig, name) {
+            None => None,
             Some(family) => match book.ctors(family) {
-                None => Ok(None),
-                Some(_) => Ok(Some(family)),
+                None => None,
+                Some(_) => Some(family),
             },
         },
-        _ => constant_named(alloc, sig, name),
+        _ => constant_named(sig, name),
     }
 }
 

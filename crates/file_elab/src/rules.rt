@@ -102,7 +102,7 @@ fn read_rule(
     let chosen = read_builder(builder);
     match rule_phase(source, phase, number) {
         Err(fault) => Err(fault),
-        Ok(read) => match rule_subject(alloc, source, sig, book, chosen, subject) {
+        Ok(read) => match rule_subject(source, sig, book, chosen, subject) {
             Err(fault) => Err(fault),
             Ok(found) => match rule_major(source, sig, chosen, found, subject, major) {
                 Err(fault) => Err(fault),
@@ -132,7 +132,6 @@ fn rule_phase(source: &Source<'_>, word: PhaseWord, number: Span) -> Result<Phas
 
 // The number of what a rule is made of.
 fn rule_subject(
-    alloc: Global,
     source: &Source<'_>,
     sig: &Signature,
     book: &RuleBook,
@@ -140,9 +139,9 @@ fn rule_subject(
     subject: Span,
 ) -> Result<u32, ElabFault>
     ensures read { IfOk result (λ found. subject_of sig.now book.now builder (text_at (text_in source.now) subject) ≡ Some found) }
-    ensures refused { IfErr result (IsRefusal (RefusesSubject (text_in source.now) sig.now book.now builder subject)) }
+    ensures refused { IfErr result (RefusesSubject (text_in source.now) sig.now book.now builder subject) }
 {
-    match read_subject(alloc, sig, book, builder, text(source, subject))? {
+    match read_subject(sig, book, builder, text(source, subject)) {
         None => Err(ElabFault::Unknown(subject.start)),
         Some(found) => Ok(found),
     }

@@ -1,6 +1,6 @@
 -- Steps of the walk that marks the variables that are mentioned.
 use Rattle.std.proofs.Common.{◌≡◌, ℕ, zero, suc, ◌+◌, ◌<◌, ◌≤◌, List, [], ◌∷◌, ◌++◌, Bool, false, length, get_or, take, drop, All, refl, sym, ap, ◌∙◌, subst, arith, length-append, add-one, append_assoc, append-nil, zero-add}
-use Rattle.std.proofs.lemmas.List.{drop_all, take_all, take-append-le, take_at}
+use Rattle.std.proofs.lemmas.List.{drop_all, take_all, take-append-le}
 use Rattle.std.proofs.lemmas.List.Elements.{All-push, All-weaker}
 use Rattle.lf_definitions.specs.Syntax.{LfHead, LfTerm, lam, at, Spine, arg, LfType, pi, family, pis}
 use Rattle.lf_terms.specs.declared.term.Term.{Term}
@@ -75,9 +75,6 @@ spine_end ps local new whole items i past rest =
 -- Types.
 
 -- what a slice of the whole wrote is the whole
-pub written_back : (new old : List Bool) (n : ℕ) → n ≡ length old → length new ≡ length old → take n (new ++ drop (length new) old) ≡ new
-written_back new old n is as_many = take_at new _ n (as_many ∙ sym is)
-
 -- one binder, whose mark is the next, over the rest
 binder_marked : (ps : List ℕ) (ms new : List Bool) (a b : LfType) → ArePlaces ps ms → new ≡ with_marks ps (λ n. mentions n a) (ms ++ false ∷ []) ++ marks_of a →
     with_marks (ps ++ length ms ∷ []) (λ n. mentions n b) new ≡ with_marks ps (λ n. mentions n (pi a b)) ms ++ mentions 0 b ∷ marks_of a

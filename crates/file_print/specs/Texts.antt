@@ -1,12 +1,8 @@
 -- The texts of terms and types, by the names of a signature.
-use Rattle.std.specs.Prelude.{ℕ, suc, ◌-◌, List, [], ◌++◌, codes, decimal, Bool, true, false, if◌then◌else◌, slice_index_or}
+use Rattle.std.specs.Prelude.{ℕ, suc, ◌-◌, List, [], ◌++◌, codes, decimal, Bool, true, false, if◌then◌else◌}
 use Rattle.lf_definitions.specs.Syntax.{LfHead, bound, constant, metavariable, LfTerm, lam, at, Spine, no_args, arg, LfType, pi, family}
-use Rattle.lf_definitions.specs.Signatures.{LfSignature, constant_names, family_names}
+use Rattle.lf_definitions.specs.Signatures.{LfSignature, constant_names, family_names, name_at}
 use Rattle.file_print.specs.Mentions.{mentions}
-
--- the name of this number
-abbrev pub name_at : List (List ℕ) → ℕ → List ℕ
-name_at names number = slice_index_or names number []
 
 -- a variable that is bound under so many binders
 abbrev pub variable_text : ℕ → List ℕ

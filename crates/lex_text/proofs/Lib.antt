@@ -6,4 +6,4 @@ pub mod Places
 pub mod Longest
 mod Lexemes
 mod Cutting
-mod Utf8
+pub mod Utf8

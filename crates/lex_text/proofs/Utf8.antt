@@ -10,7 +10,7 @@ use Rattle.lex_text.specs.declared.token.Token.{Token}
 use Rattle.lex_text.specs.Characters.{Spells, NotUtf8At}
 use Rattle.lex_text.specs.Tokens.{Cut, Wrong, Lexical, TokensOf, WrongText}
 
-both_true : (a b : Bool) → (a && b) ≡ true → (a ≡ true) × (b ≡ true)
+pub both_true : (a b : Bool) → (a && b) ≡ true → (a ≡ true) × (b ≡ true)
 both_true true b e = (refl, e)
 both_true false b e = cc
 

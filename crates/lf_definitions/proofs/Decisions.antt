@@ -1,6 +1,6 @@
 -- Where all types are shaped, each term is typed or fails at a path, and each type, context and kind is well formed or fails at a path.
 use Rattle.std.proofs.Common.{◌≡◌, ◌≢◌, ℕ, suc, ◌≤◌, ◌⊎◌, inl, inr, Option, Some, None, List, [], ◌∷◌, length, refl, sym, ap, ap₂, ◌∙◌, subst, arith}
-use Rattle.lf_definitions.specs.Syntax.{LfHead, bound, constant, metavariable, LfTerm, lam, at, Spine, no_args, arg, base, arrows, LfType, pi, family, Context, LfKind, pis, shape_of, shapes_of_types, shape_size, args_count}
+use Rattle.lf_definitions.specs.Syntax.{LfHead, bound, constant, metavariable, LfTerm, lam, at, Spine, no_args, arg, base, arrows, LfType, pi, family, Context, LfKind, pis, shape_of, shapes_of_types, shape_size, args_count, conclusion}
 use Rattle.lf_definitions.specs.Shaping.{Scope, under, under_all, Shaped, ShapedType, shaped_pi, shaped_family}
 use Rattle.lf_definitions.specs.Substitution.{Replacement, stays, push, push_all, SubstitutedSpine, SubstitutedType}
 use Rattle.lf_definitions.specs.Typing.{Typing, with_variable, Typed, typed_lam, typed_at, TypedSpine, typed_none, typed_arg, Kinds, Formed, formed_pi, formed_family, FormedContext, formed_empty, formed_entry, shapes_of, shapes_of_kinds}
@@ -11,7 +11,7 @@ use Rattle.lf_definitions.proofs.Totality.{Goes, Goes-stays, Goes-push, total_sp
 use Rattle.lf_definitions.proofs.Telescopes.{Goes-push_all}
 use Rattle.lf_definitions.proofs.Types.{total_type, shape_of-SubstitutedType}
 use Rattle.lf_definitions.proofs.Typing.{Shaped-Typed, ShapedSpine-TypedSpine, ShapedType-Formed}
-use Rattle.lf_definitions.proofs.Failures.{binders_of, family_of, family_args_of}
+use Rattle.lf_definitions.proofs.Failures.{binders_of, family_args_of}
 use Rattle.lf_definitions.proofs.ShapedGoals.{ShapedTyping-head, ShapedTyping-family, ShapedTyping-with_variable, shapes_of-under, ShapedContext-pis, ShapedType-under_pis}
 
 -- Equality of syntax is decided.
@@ -77,7 +77,7 @@ mutual
   same_spines (arg t ts) (arg u us) = both_args (same_terms t u) (same_spines ts us)
 
 -- each type is its binders over its family
-pub pis-binders_of : (a : LfType) → pis (binders_of a) (family (family_of a) (family_args_of a)) ≡ a
+pub pis-binders_of : (a : LfType) → pis (binders_of a) (family (conclusion a) (family_args_of a)) ≡ a
 pis-binders_of (pi a b) = ap (pi a) (pis-binders_of b)
 pis-binders_of (family f args) = refl
 
@@ -116,7 +116,7 @@ module _ (kinds : Kinds) where
       HoldsOrFails (Typed Γ (at h ts) (family f results)) (FailsTerm Γ (at h ts) (family f results))
   at_head Γ shaped h ts results f None e spine = inr ([], fails_head Γ h ts f results e)
   at_head Γ shaped h ts results f (Some a) e spine =
-      at_count Γ shaped h ts results (family_args_of a) f (family_of a) (binders_of a) (e ∙ ap Some (sym (pis-binders_of a))) (same_number (args_count ts) (length (binders_of a))) (spine (binders_of a))
+      at_count Γ shaped h ts results (family_args_of a) f (conclusion a) (binders_of a) (e ∙ ap Some (sym (pis-binders_of a))) (same_number (args_count ts) (length (binders_of a))) (spine (binders_of a))
 
   at_body : (Γ : Typing) (b : LfTerm) (a c : LfType) → HoldsOrFails (Typed (with_variable a Γ) b c) (FailsTerm (with_variable a Γ) b c) → HoldsOrFails (Typed Γ (lam b) (pi a c)) (FailsTerm Γ (lam b) (pi a c))
   at_body Γ b a c (inl p) = inl (typed_lam p)

@@ -1,5 +1,5 @@
 -- Eta-long variables: they have the shape of their head, a term put for one stands in its place, and putting them for heads renames those.
-use Rattle.std.proofs.Common.{◌≡◌, ℕ, zero, suc, ◌<◌, ◌≤◌, Option, Some, refl, sym, ap, ◌∙◌, subst, subst₂, arith}
+use Rattle.std.proofs.Common.{◌≡◌, ℕ, zero, suc, ◌<◌, ◌≤◌, Some, refl, sym, ap, ◌∙◌, subst, subst₂, arith}
 use Rattle.lf_definitions.specs.Syntax.{LfHead, bound, LfTerm, lam, at, Spine, no_args, arg, SimpleType, base, arrow, shape_size, arguments, arity, args_count, lams}
 use Rattle.lf_definitions.specs.Renaming.{next, Renaming, lifted, rename, rename_spine, next_by, lifted_by}
 use Rattle.lf_definitions.specs.Shaping.{Scope, under, under_all, Shaped, shaped_lam, shaped_at, ShapedSpine, shaped_none, shaped_arg}
@@ -7,6 +7,7 @@ use Rattle.lf_definitions.specs.Substitution.{Image, stays, becomes, rename_imag
 use Rattle.lf_definitions.specs.Expansion.{own_variables, eta}
 use Rattle.lf_definitions.proofs.Uniqueness.{unique}
 use Rattle.lf_definitions.proofs.Renaming.{extended-next, each_head, after, same_head, rename-rename, rename-same_head, KeepsShapes, KeepsShapes-lifted, ShapedSpine-rename_spine, Substituted-rename, renames, Substituted-renames}
+use Rattle.lf_definitions.proofs.Options.{Some-Some}
 
 pub rename_image-same_head : (i : Image) → rename_image same_head i ≡ i
 rename_image-same_head (stays k) = refl
@@ -135,9 +136,6 @@ IsAlike-up p ξ Γ ρ a alike =
 abbrev pub IsUnit : ℕ → Type 0
 IsUnit p = (Γ Δ : Scope) (ξ : Renaming) (ρ : Replacement) → KeepsShapes ξ Γ Δ → IsAlike p ξ Γ ρ → (t : LfTerm) (s : SimpleType) → Shaped Γ t s → Substituted ρ t (rename ξ t)
 
-Some_inj : {a b : SimpleType} → ◌≡◌ {A = Option SimpleType} (Some a) (Some b) → a ≡ b
-Some_inj e = cc
-
 -- Under a shape's own binders, putting its variables for themselves.
 pub own_alike : (p : ℕ) (s : SimpleType) → shape_size s ≤ p → (Γ : Scope) (τ : Replacement) (ξ : Renaming) →
     ((h : LfHead) (c : SimpleType) → Γ h ≡ Some c → Alike p (τ (ξ h)) (next_by (arity s) h) c) →
@@ -148,7 +146,7 @@ own_alike p (arrow a s) small Γ τ ξ alike =
     let size : shape_size a < p = omega arith in
     own_alike p s (omega arith) (under a Γ) (push (eta x a) τ) (lifted ξ)
     (each_head (λ h. (c : SimpleType) → under a Γ h ≡ Some c → Alike p (push (eta x a) τ (lifted ξ h)) (next_by (arity s) h) c)
-    (λ c e. subst (λ d. Alike p (becomes (eta x a)) x d) (Some_inj e) (alike_eta size))
+    (λ c e. subst (λ d. Alike p (becomes (eta x a)) x d) (Some-Some e) (alike_eta size))
     (λ h c e. subst (λ i. Alike p i (next_by (arity s) (next h)) c)
     (sym (ap (push (eta x a) τ) (extended-next (bound zero) (λ k. next (ξ k)) h) ∙ extended-next (becomes (eta x a)) τ (ξ h)))
     (alike h c (sym (extended-next (Some a) Γ h) ∙ e))))

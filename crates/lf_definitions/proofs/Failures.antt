@@ -1,26 +1,17 @@
 -- A failure and a derivation exclude each other, and the path of a failure is unique.
-use Rattle.std.proofs.Common.{◌≡◌, ℕ, Option, Some, None, List, [], ◌∷◌, length, refl, sym, ap, ◌∙◌, subst}
-use Rattle.lf_definitions.specs.Syntax.{LfTerm, Spine, LfType, pi, family, Context, pis}
+use Rattle.std.proofs.Common.{◌≡◌, ℕ, Option, Some, List, [], ◌∷◌, length, refl, sym, ap, ◌∙◌, subst}
+use Rattle.lf_definitions.specs.Syntax.{LfTerm, Spine, LfType, pi, family, Context, pis, conclusion}
 use Rattle.lf_definitions.specs.Substitution.{Replacement, stays, push_all, SubstitutedSpine}
 use Rattle.lf_definitions.specs.Typing.{Typing, Typed, typed_lam, typed_at, TypedSpine, typed_arg, Kinds, Formed, formed_pi, formed_family, FormedContext, formed_entry}
 use Rattle.lf_definitions.specs.Failures.{FailsTerm, fails_lam, fails_at, fails_in_body, fails_head, fails_count, fails_in_argument, fails_result, FailsSpine, fails_here, fails_later, FailsTypeFrom, fails_binder, fails_rest, fails_family, fails_family_count, fails_family_argument, FailsContextFrom, fails_entry, fails_entries}
 use Rattle.lf_definitions.proofs.Uniqueness.{unique_type, unique_spine}
 use Rattle.lf_definitions.proofs.Weakening.{args_count-TypedSpine}
-
-None-Some : {A : Type 0} {o : Option A} {x : A} → o ≡ None → o ≡ Some x → ⊥
-None-Some e f = cc
-
-Some_inj : {A : Type 0} {o : Option A} {x y : A} → o ≡ Some x → o ≡ Some y → x ≡ y
-Some_inj e f = cc
+use Rattle.lf_definitions.proofs.Options.{None-Some, Some_inj}
 
 -- the binders of a type, its family and the family's arguments
 abbrev pub binders_of : LfType → List LfType
 binders_of (pi a b) = a ∷ binders_of b
 binders_of (family f args) = []
-
-abbrev pub family_of : LfType → ℕ
-family_of (pi a b) = family_of b
-family_of (family f args) = f
 
 abbrev pub family_args_of : LfType → Spine
 family_args_of (pi a b) = family_args_of b
@@ -30,9 +21,9 @@ pub binders_of-pis : (bs : List LfType) (f : ℕ) (args : Spine) → binders_of 
 binders_of-pis [] f args = refl
 binders_of-pis (b ∷ bs) f args = ap (λ cs. b ∷ cs) (binders_of-pis bs f args)
 
-pub family_of-pis : (bs : List LfType) (f : ℕ) (args : Spine) → family_of (pis bs (family f args)) ≡ f
-family_of-pis [] f args = refl
-family_of-pis (b ∷ bs) f args = family_of-pis bs f args
+pub conclusion-pis : (bs : List LfType) (f : ℕ) (args : Spine) → conclusion (pis bs (family f args)) ≡ f
+conclusion-pis [] f args = refl
+conclusion-pis (b ∷ bs) f args = conclusion-pis bs f args
 
 pub family_args_of-pis : (bs : List LfType) (f : ℕ) (args : Spine) → family_args_of (pis bs (family f args)) ≡ args
 family_args_of-pis [] f args = refl
@@ -45,7 +36,7 @@ same_binders bs cs f g args other e e' =
 
 same_family : (bs cs : List LfType) (f g : ℕ) (args other : Spine) {o : Option LfType} → o ≡ Some (pis bs (family f args)) → o ≡ Some (pis cs (family g other)) → f ≡ g
 same_family bs cs f g args other e e' =
-    sym (family_of-pis bs f args) ∙ ap family_of (Some_inj e e') ∙ family_of-pis cs g other
+    sym (conclusion-pis bs f args) ∙ ap conclusion (Some_inj e e') ∙ conclusion-pis cs g other
 
 same_args : (bs cs : List LfType) (f g : ℕ) (args other : Spine) {o : Option LfType} → o ≡ Some (pis bs (family f args)) → o ≡ Some (pis cs (family g other)) → args ≡ other
 same_args bs cs f g args other e e' =

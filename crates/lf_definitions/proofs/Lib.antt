@@ -1,3 +1,6 @@
+pub mod Options
+pub mod Lists
+pub mod Counts
 pub mod Uniqueness
 pub mod Renaming
 pub mod Totality

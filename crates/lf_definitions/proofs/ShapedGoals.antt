@@ -12,6 +12,7 @@ use Rattle.lf_definitions.proofs.Renaming.{same_head, rename_type-same_head, Kee
 use Rattle.lf_definitions.proofs.Types.{ShapedType-rename_type}
 use Rattle.lf_definitions.proofs.Typing.{shapes_of-with_variable, ShapedType-Formed}
 use Rattle.lf_definitions.proofs.Growth.{AllFormed}
+use Rattle.lf_definitions.proofs.Options.{Some-Some}
 
 -- What may occur in a scope may occur in another with the same shape.
 abbrev pub ScopeGrows : Scope → Scope → Type 0
@@ -81,15 +82,12 @@ ShapedTyping-with_variable kinds Γ a shaped of_a = record {
         subst (λ Δ. ShapedType (shapes_of_kinds kinds) Δ (raise_type b)) (sym (shapes_of-under Γ a))
         (ShapedType-rename_type p next (under (shape_of a) (shapes_of Γ)) (KeepsShapes-next (shapes_of Γ) (shape_of a)))
 
-    Some_inj : {x y : LfType} → ◌≡◌ {A = Option LfType} (Some x) (Some y) → x ≡ y
-    Some_inj e = cc
-
     older : (n : ℕ) (o : Option LfType) → Γ (bound n) ≡ o → (b : LfType) → option_map raise_type o ≡ Some b → ShapedType (shapes_of_kinds kinds) (shapes_of (with_variable a Γ)) b
     older n None is b e = absurd cc
-    older n (Some c) is b e = subst (ShapedType (shapes_of_kinds kinds) (shapes_of (with_variable a Γ))) (Some_inj e) (raised c (shaped.of_variables n c is))
+    older n (Some c) is b e = subst (ShapedType (shapes_of_kinds kinds) (shapes_of (with_variable a Γ))) (Some-Some e) (raised c (shaped.of_variables n c is))
 
     at_variable : (n : ℕ) (b : LfType) → with_variable a Γ (bound n) ≡ Some b → ShapedType (shapes_of_kinds kinds) (shapes_of (with_variable a Γ)) b
-    at_variable zero b e = subst (ShapedType (shapes_of_kinds kinds) (shapes_of (with_variable a Γ))) (Some_inj e) (raised a of_a)
+    at_variable zero b e = subst (ShapedType (shapes_of_kinds kinds) (shapes_of (with_variable a Γ))) (Some-Some e) (raised a of_a)
     at_variable (suc n) b e = older n (Γ (bound n)) refl b e
 
 pub shapes_of-with_context : (ctx : Context) (Γ : Typing) → shapes_of (with_context ctx Γ) ≡ under_all (shapes_of_types ctx) (shapes_of Γ)

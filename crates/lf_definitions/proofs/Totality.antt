@@ -1,11 +1,12 @@
 -- A shaped substitution has a result, and the result is shaped.
-use Rattle.std.proofs.Common.{◌≡◌, ℕ, zero, suc, ◌<◌, ◌≤◌, Option, Some, refl, sym, ◌∙◌, subst, arith}
+use Rattle.std.proofs.Common.{◌≡◌, ℕ, zero, suc, ◌<◌, ◌≤◌, Some, refl, sym, ◌∙◌, subst, arith}
 use Rattle.lf_definitions.specs.Syntax.{LfHead, bound, LfTerm, lam, at, Spine, no_args, arg, SimpleType, base, shape_size}
 use Rattle.lf_definitions.specs.Renaming.{next}
 use Rattle.lf_definitions.specs.Shaping.{Scope, under, Shaped, shaped_lam, shaped_at, ShapedSpine, shaped_none, shaped_arg}
 use Rattle.lf_definitions.specs.Substitution.{Image, stays, becomes, rename_image, Replacement, up, push, Substituted, substituted_lam, substituted_stays, substituted_becomes, SubstitutedSpine, substituted_none, substituted_arg, Applied, applied_none, applied_arg}
 use Rattle.lf_definitions.proofs.Uniqueness.{unique, unique_spine}
 use Rattle.lf_definitions.proofs.Renaming.{extended-next, each_head, Shaped-raise}
+use Rattle.lf_definitions.proofs.Options.{Some-Some}
 
 -- An image has the shape of its head. Where it is a term, the shape is smaller than a bound.
 pub data Fits : Scope → ℕ → Image → SimpleType → Type 0 where
@@ -15,9 +16,6 @@ pub data Fits : Scope → ℕ → Image → SimpleType → Type 0 where
 -- A replacement goes from one scope to another where the image of each head fits its shape.
 abbrev pub Goes : ℕ → Scope → Scope → Replacement → Type 0
 Goes p Γ Δ σ = (h : LfHead) (s : SimpleType) → Γ h ≡ Some s → Fits Δ p (σ h) s
-
-Some_inj : {a b : SimpleType} → ◌≡◌ {A = Option SimpleType} (Some a) (Some b) → a ≡ b
-Some_inj e = cc
 
 pub Fits-next : {Δ : Scope} {p : ℕ} {i : Image} {s : SimpleType} (a : SimpleType) → Fits Δ p i s → Fits (under a Δ) p (rename_image next i) s
 Fits-next {Δ} a (fits_stays {k = k} e) = fits_stays (extended-next (Some a) Δ k ∙ e)
@@ -43,7 +41,7 @@ Goes-up p Γ Δ σ a goes =
 pub Goes-push : (p : ℕ) (Γ Δ : Scope) (σ : Replacement) (a : SimpleType) (v : LfTerm) → Goes p Γ Δ σ → Shaped Δ v a → shape_size a < p → Goes p (under a Γ) Δ (push v σ)
 Goes-push p Γ Δ σ a v goes shaped small =
     each_head (λ h. (s : SimpleType) → under a Γ h ≡ Some s → Fits Δ p (push v σ h) s)
-    (λ s e. subst (λ c. Fits Δ p (becomes v) c) (Some_inj e) (fits_becomes shaped small))
+    (λ s e. subst (λ c. Fits Δ p (becomes v) c) (Some-Some e) (fits_becomes shaped small))
     (λ h s e. subst (λ i. Fits Δ p i s) (sym (extended-next (becomes v) σ h)) (goes h s (sym (extended-next (Some a) Γ h) ∙ e)))
 
 abbrev pub HasResult : Scope → Replacement → LfTerm → SimpleType → Type 0

@@ -1,8 +1,8 @@
 -- A spine that is typed argument by argument, and where one of its arguments fails.
-use Rattle.std.proofs.Common.{◌≡◌, ℕ, zero, suc, ◌+◌, List, [], ◌∷◌, ◌++◌, length, refl, sym, ap, ◌∙◌, subst, arith}
+use Rattle.std.proofs.Common.{◌≡◌, ℕ, suc, ◌+◌, List, [], ◌∷◌, ◌++◌, length, refl, ap, subst, arith}
 use Rattle.lf_definitions.specs.Syntax.{LfHead, LfTerm, Spine, no_args, arg, LfType, Context, args_count, joined}
 use Rattle.lf_definitions.specs.Renaming.{Renaming, lifted, lifted_by, rename_spine, rename_type, rename_context}
-use Rattle.lf_definitions.specs.Substitution.{stays, becomes, rename_image, Image, Replacement, push, push_all, SubstitutedType, SubstitutedSpine}
+use Rattle.lf_definitions.specs.Substitution.{stays, rename_image, Replacement, push, push_all, SubstitutedType, SubstitutedSpine}
 use Rattle.lf_definitions.specs.Typing.{Typing, Typed, TypedSpine, typed_none, typed_arg}
 use Rattle.lf_definitions.specs.Failures.{FailsTerm, FailsSpine, fails_here, fails_later}
 use Rattle.lf_definitions.proofs.Renaming.{same_head, rename_type-same_head, rename_spine-same_head, SubstitutedType-rename_type, SubstitutedSpine-rename_spine}

@@ -1,9 +1,9 @@
 -- Typed terms are shaped, and typing goes along with renamings of variables.
 use Rattle.std.proofs.Common.{◌≡◌, ℕ, zero, suc, Option, Some, None, option_map, List, [], ◌∷◌, refl, ap, ◌∙◌, subst}
 use mathlib.Core.Path.{fun_ext}
-use Rattle.lf_definitions.specs.Syntax.{LfHead, bound, constant, metavariable, LfTerm, Spine, base, arrow, arrows, LfType, family, pis, shape_of, shapes_of_types}
+use Rattle.lf_definitions.specs.Syntax.{LfHead, bound, constant, metavariable, LfTerm, Spine, base, arrow, arrows, LfType, family, pis, shape_of, shapes_of_types, SimpleType, pi}
 use Rattle.lf_definitions.specs.Renaming.{next, raise_type}
-use Rattle.lf_definitions.specs.Shaping.{under, Shaped, shaped_lam, shaped_at, ShapedSpine, shaped_none, shaped_arg, ShapedType, shaped_pi, shaped_family}
+use Rattle.lf_definitions.specs.Shaping.{under, Shaped, shaped_lam, shaped_at, ShapedSpine, shaped_none, shaped_arg, ShapedType, shaped_pi, shaped_family, Scope}
 use Rattle.lf_definitions.specs.Substitution.{Replacement}
 use Rattle.lf_definitions.specs.Typing.{Typing, with_variable, Typed, typed_lam, typed_at, TypedSpine, typed_none, typed_arg, Kinds, Formed, formed_pi, formed_family, shapes_of, shapes_of_kinds}
 use Rattle.lf_definitions.proofs.Types.{shape_of-rename_type, shape_of-SubstitutedType}
@@ -34,6 +34,12 @@ mutual
   ShapedSpine-TypedSpine typed_none = shaped_none
   ShapedSpine-TypedSpine (typed_arg {Γ = Γ} {t = t} c result p ps) =
       shaped_arg (subst (Shaped (shapes_of Γ) t) (shape_of-SubstitutedType result) (Shaped-Typed p)) (ShapedSpine-TypedSpine ps)
+
+pub shaped_argument : {kinds : ℕ → Option SimpleType} {Γ : Scope} {a b : LfType} → ShapedType kinds Γ (pi a b) → ShapedType kinds Γ a
+shaped_argument (shaped_pi p q) = p
+
+pub shaped_result : {kinds : ℕ → Option SimpleType} {Γ : Scope} {a b : LfType} → ShapedType kinds Γ (pi a b) → ShapedType kinds (under (shape_of a) Γ) b
+shaped_result (shaped_pi p q) = q
 
 -- Well-formed types are shaped.
 pub ShapedType-Formed : {kinds : Kinds} {Γ : Typing} {a : LfType} → Formed kinds Γ a → ShapedType (shapes_of_kinds kinds) (shapes_of Γ) a

@@ -1,5 +1,5 @@
 -- The types of the variables of a context: each is its entry, as it is seen from under that entry and all later ones.
-use Rattle.std.proofs.Common.{◌≡◌, ℕ, zero, suc, ◌+◌, ◌-◌, ◌<◌, ◌≤◌, Option, Some, None, option_map, List, [], ◌∷◌, ◌++◌, length, refl, sym, ap, ◌∙◌, arith}
+use Rattle.std.proofs.Common.{◌≡◌, ℕ, zero, suc, ◌+◌, ◌-◌, Option, Some, None, option_map, [], ◌∷◌, ◌++◌, length, refl, sym, ap, ◌∙◌, arith}
 use mathlib.Core.Path.{fun_ext}
 use Rattle.lf_definitions.specs.Syntax.{LfHead, bound, constant, metavariable, LfType, Context}
 use Rattle.lf_definitions.specs.Renaming.{next, next_by, rename_type, raise_type}

@@ -8,6 +8,7 @@ use Rattle.lf_definitions.specs.Typing.{Typing, with_variable, Typed, typed_lam,
 use Rattle.lf_definitions.specs.Laws.{variables, KeepsTypes}
 use Rattle.lf_definitions.specs.TypingLaws.{ClosedKinds}
 use Rattle.lf_definitions.proofs.Renaming.{extended-next, rename_type-rename_type, Follows, Follows-push, SubstitutedType-rename_type, SubstitutedSpine-rename_spine}
+use Rattle.lf_definitions.proofs.Options.{Some-Some}
 
 -- under a binder
 abbrev under_binder : (ℕ → ℕ) → ℕ → ℕ
@@ -24,9 +25,6 @@ rename_type-raise_type : (ξ : Renaming) (a : LfType) → rename_type (lifted ξ
 rename_type-raise_type ξ a =
     rename_type-rename_type a (lifted ξ) next ∙ ap (λ θ. rename_type θ a) (fun_ext (extended-next (bound zero) (λ h. next (ξ h)))) ∙ sym (rename_type-rename_type a next ξ)
 
-Some_inj : {a b : LfType} → ◌≡◌ {A = Option LfType} (Some a) (Some b) → a ≡ b
-Some_inj e = cc
-
 raised : (v : ℕ → ℕ) (a : LfType) → raise_type (rename_type (variables v) a) ≡ rename_type (variables (under_binder v)) (raise_type a)
 raised v a = sym (rename_type-raise_type (variables v) a) ∙ ap (λ ξ. rename_type ξ (raise_type a)) (sym (fun_ext (variables-under_binder v)))
 
@@ -36,13 +34,13 @@ KeepsTypes-under_binder v Γ Δ a keeps = (at_variable, keeps.1, keeps.2)
     older : (n : ℕ) (o : Option LfType) → Γ (bound n) ≡ o → (b : LfType) → option_map raise_type o ≡ Some b → option_map raise_type (Δ (bound (v n))) ≡ Some (rename_type (variables (under_binder v)) b)
     older n None is b e = absurd cc
     older n (Some c) is b e =
-        ap (option_map raise_type) (keeps.0 n c is) ∙ ap Some (raised v c ∙ ap (rename_type (variables (under_binder v))) (Some_inj e))
+        ap (option_map raise_type) (keeps.0 n c is) ∙ ap Some (raised v c ∙ ap (rename_type (variables (under_binder v))) (Some-Some e))
 
     at_variable : (n : ℕ) (b : LfType) → with_variable a Γ (bound n) ≡ Some b → with_variable (rename_type (variables v) a) Δ (bound (under_binder v n)) ≡ Some (rename_type (variables (under_binder v)) b)
-    at_variable zero b e = ap Some (raised v a ∙ ap (rename_type (variables (under_binder v))) (Some_inj e))
+    at_variable zero b e = ap Some (raised v a ∙ ap (rename_type (variables (under_binder v))) (Some-Some e))
     at_variable (suc n) b e = older n (Γ (bound n)) refl b e
 
-KeepsTypes-head : (v : ℕ → ℕ) (Γ Δ : Typing) → KeepsTypes v Γ Δ → (h : LfHead) (a : LfType) → Γ h ≡ Some a → Δ (variables v h) ≡ Some (rename_type (variables v) a)
+pub KeepsTypes-head : (v : ℕ → ℕ) (Γ Δ : Typing) → KeepsTypes v Γ Δ → (h : LfHead) (a : LfType) → Γ h ≡ Some a → Δ (variables v h) ≡ Some (rename_type (variables v) a)
 KeepsTypes-head v Γ Δ keeps (bound n) a e = keeps.0 n a e
 KeepsTypes-head v Γ Δ keeps (constant c) a e = let k = keeps.1 c a e in k.0 ∙ ap Some (sym (k.1 v))
 KeepsTypes-head v Γ Δ keeps (metavariable g) a e = let k = keeps.2 g a e in k.0 ∙ ap Some (sym (k.1 v))

@@ -1,6 +1,6 @@
 -- Where variables occur, and which binders of a type are premises.
-use Rattle.std.specs.Prelude.{◌≡◌, ℕ, suc, List, [], ◌∷◌}
-use Rattle.lf_definitions.specs.Syntax.{LfHead, bound, LfTerm, lam, at, Spine, no_args, arg, LfType, pi, family}
+use Rattle.std.specs.Prelude.{ℕ, suc, List, [], ◌∷◌}
+use Rattle.lf_definitions.specs.Syntax.{LfHead, bound, LfTerm, lam, at, Spine, arg, LfType, pi, family}
 
 mutual
   -- the variable of this number in a term

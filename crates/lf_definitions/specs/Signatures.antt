@@ -1,5 +1,5 @@
 -- Signatures: families with their kinds and constants with their types, in the order in which they were added.
-use Rattle.std.specs.Prelude.{◌≡◌, ◌≢◌, ℕ, List, [], ◌∷◌, ◌++◌, map, All}
+use Rattle.std.specs.Prelude.{◌≡◌, ◌≢◌, ℕ, List, [], ◌∷◌, ◌++◌, map, All, slice_index_or}
 use Rattle.lf_definitions.specs.Syntax.{LfType, Context, LfKind}
 use Rattle.lf_definitions.specs.Typing.{Typing, Kinds, Formed, FormedKind, LfGoal, kinds_of, types_in}
 
@@ -37,6 +37,10 @@ abbrev pub constant_names : LfSignature → List (List ℕ)
 constant_names [] = []
 constant_names (family_entry name kind ∷ sig) = constant_names sig
 constant_names (constant_entry name type ∷ sig) = name ∷ constant_names sig
+
+-- the name of this number, in a list of names
+abbrev pub name_at : List (List ℕ) → ℕ → List ℕ
+name_at names number = slice_index_or names number []
 
 -- the types of the constants
 abbrev pub constant_types : LfSignature → List LfType

@@ -44,6 +44,11 @@ arrows [] end = end
 arrows (a ∷ rest) end = arrow a (arrows rest end)
 
 -- the shape of a type
+-- the family that a type ends in
+abbrev pub conclusion : LfType → ℕ
+conclusion (pi a b) = conclusion b
+conclusion (family f args) = f
+
 abbrev pub shape_of : LfType → SimpleType
 shape_of (pi a b) = arrow (shape_of a) (shape_of b)
 shape_of (family f args) = base

@@ -1,5 +1,5 @@
 -- Binders that are well formed one by one, and where one of them fails.
-use Rattle.std.proofs.Common.{◌≡◌, ℕ, suc, ◌+◌, ◌<◌, ◌≤◌, Option, List, [], ◌∷◌, ◌++◌, length, get_or, take, drop, sym, ap, ◌∙◌, subst, subst₂, arith, take_all}
+use Rattle.std.proofs.Common.{◌≡◌, ℕ, suc, ◌+◌, ◌<◌, Option, List, [], ◌∷◌, ◌++◌, length, get_or, take, drop, sym, ap, ◌∙◌, subst, subst₂, arith}
 use Rattle.lf_definitions.specs.Syntax.{LfType, pis, Context}
 use Rattle.lf_definitions.specs.Typing.{Typing, with_variable, with_context, Kinds, Formed, formed_pi, FormedContext, formed_empty, formed_entry}
 use Rattle.lf_definitions.specs.Failures.{FailsType, FailsTypeFrom, fails_binder, fails_rest, FailsContextFrom, fails_entry, fails_entries}
@@ -59,9 +59,6 @@ binder_fails kinds Γ types i ty path within is before p =
     subst₂ (λ ctx n. FailsContextFrom kinds Γ ctx 0 (n ∷ path))
     (sym (ap types_of (split_read types i ty within is) ∙ types_of-append front (ty ∷ drop (suc i) types))) here
     (FailsContext-at before (type_of ty) (types_of (drop (suc i) types)) 0 path p)
-
-pub formed_end : (kinds : Kinds) (Γ : Typing) (types : List Ty) (i : ℕ) → length types ≤ i → FormedUpTo kinds Γ types i → FormedContext kinds Γ (types_of types)
-formed_end kinds Γ types i past p = subst (λ ts. FormedContext kinds Γ (types_of ts)) (take_all i types past) p
 
 -- a walk over what is under the binders is one over the type
 pub type_walk : (kinds : Kinds) (Γ : Typing) (types : List Ty) (binders : Context) (end : LfType) → types_of types ≡ binders → FormedContext kinds Γ (types_of types) → (r : Option (List ℕ)) →

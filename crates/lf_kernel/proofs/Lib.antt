@@ -8,4 +8,3 @@ pub mod Spines
 pub mod Under
 pub mod Families
 pub mod Openings
-pub mod Counts

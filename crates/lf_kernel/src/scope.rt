@@ -3,7 +3,6 @@
 ghost use Rattle.std.specs.Prelude.{◌≡◌, ◌+◌, option_map};
 ghost use Rattle.lf_definitions.specs.Syntax.{bound};
 ghost use Rattle.lf_definitions.specs.Renaming.{rename_type, next_by};
-ghost use Rattle.lf_definitions.specs.Typing.{typed_globals};
 ghost use Rattle.lf_kernel.specs.Scopes.{typing_under, no_heads};
 ghost use Rattle.lf_terms.specs.Types.{type_of};
 

@@ -1,13 +1,13 @@
 //! The walk over a term: from left to right, down to the first failure.
 
-ghost use Rattle.std.specs.Prelude.{◌≡◌, ◌↔◌, IfOk, IsTrue, List, length};
+ghost use Rattle.std.specs.Prelude.{◌≡◌, IfOk, List, length};
 ghost use Rattle.lf_definitions.specs.Syntax.{family, args_count, at, shapes_of_types};
-ghost use Rattle.lf_definitions.specs.Renaming.{next_by, rename_type, rename_context};
-ghost use Rattle.lf_definitions.specs.Substitution.{stays, push_all, SubstitutedSpine};
+ghost use Rattle.lf_definitions.specs.Renaming.{next_by, rename_context};
+ghost use Rattle.lf_definitions.specs.Substitution.{stays};
 ghost use Rattle.lf_definitions.specs.Typing.{Typed, TypedSpine};
 ghost use Rattle.lf_definitions.specs.Failures.{FailsTerm, FailsSpine};
 ghost use Rattle.lf_kernel.specs.Checks.{Walks};
-ghost use Rattle.lf_kernel.specs.Heads.{typing_at, declared_type};
+ghost use Rattle.lf_kernel.specs.Heads.{typing_at};
 ghost use Rattle.lf_kernel.specs.Knowing.{ShapedAt, ShapedTypeAt, ShapedBindersAt};
 ghost use Rattle.lf_kernel.specs.Results.{Gives};
 ghost use Rattle.lf_terms.specs.Putting.{Puts, ArgsShaped};

@@ -9,8 +9,12 @@ use Rattle.lf_terms.specs.Types.{type_of, types_of}
 use Rattle.lf_terms.specs.Mentions.{AreMentions, mentions_nothing, mentions_binder, OccursBinders, occurs_here, occurs_after, Marks}
 use Rattle.std.proofs.Math.ListN.{get_or-append}
 use Rattle.std.proofs.Math.Seq.{get_or-append_seam, drop-cons}
-use Rattle.std.proofs.lemmas.List.{length-take-le, take_all, drop_all}
+use Rattle.std.proofs.lemmas.List.{length-take-le, take_all, drop_all, take_at}
 use Rattle.lf_terms.proofs.ShapeLists.{take_read}
+
+-- What a slice of the whole wrote is the whole.
+pub written_back : (new old : List Bool) (n : ℕ) → n ≡ length old → length new ≡ length old → take n (new ++ drop (length new) old) ≡ new
+written_back new old n is as_many = take_at new _ n (as_many ∙ sym is)
 
 -- Marks by what occurs.
 

@@ -1,5 +1,5 @@
 -- The steps of a substitution: what each asks follows from what was asked before, and what each gives makes up the result.
-use Rattle.std.proofs.Common.{◌≡◌, ℕ, zero, suc, ◌+◌, ◌-◌, ◌<◌, ◌≤◌, Option, Some, List, [], ◌∷◌, ◌++◌, length, get_or, refl, sym, ap, ap₂, ◌∙◌, subst, subst₂, arith, add-one, length-append}
+use Rattle.std.proofs.Common.{◌≡◌, ℕ, zero, suc, ◌+◌, ◌-◌, ◌<◌, ◌≤◌, Some, List, [], ◌∷◌, ◌++◌, length, get_or, refl, sym, ap, ap₂, ◌∙◌, subst, subst₂, arith, add-one, length-append}
 use mathlib.Core.Path.{fun_ext}
 use Rattle.lf_definitions.specs.Syntax.{LfHead, bound, constant, metavariable, LfTerm, lam, at, Spine, no_args, arg, SimpleType, base, arrows, shape_size, shapes_size, args_count, arg_at, lams, joined}
 use Rattle.lf_definitions.specs.Renaming.{next, Renaming, lifted, rename, next_by, lifted_by}
@@ -10,6 +10,7 @@ use Rattle.lf_definitions.proofs.Renaming.{extended-next, each_head, same_head, 
 use Rattle.lf_definitions.proofs.Totality.{fits_stays, Goes, Shaped-Substituted, ShapedSpine-SubstitutedSpine}
 use Rattle.lf_definitions.proofs.Expansion.{rename_image-same_head, stripped, args_count-arity, Applied-lams, rename-lams}
 use Rattle.lf_definitions.proofs.Telescopes.{under_all-append, args_count-length, arguments-arrows, Shaped-arg_at, Goes-push_all, Goes-up_by, next_by-bound, next_by-constant, next_by-metavariable, up_by-bound_small, up_by-bound, up_by-constant, up_by-metavariable, push_all-bound, push_all-bound_greater, push_all-constant, push_all-metavariable, under_all-next_by_length}
+use Rattle.lf_definitions.proofs.Options.{Some-Some}
 use Rattle.lf_terms.specs.declared.term.Term.{Term}
 use Rattle.lf_terms.specs.declared.shape.Shape.{Shape}
 use Rattle.lf_terms.specs.Terms.{term_of, spine_of}
@@ -144,9 +145,6 @@ pub record Replaced (sub : Spine) (shapes : List SimpleType) (by d n k : ℕ) (v
   pub shape_is : shape_at shapes k ≡ Some (arrows args base)
 
 module _ (sub : Spine) (shapes : List SimpleType) (by d n k : ℕ) (vs : Spine) (u : LfTerm) (args : List SimpleType) (c : Replaced sub shapes by d n k vs u args) where
-  Some_inj : {a b : SimpleType} → ◌≡◌ {A = Option SimpleType} (Some a) (Some b) → a ≡ b
-  Some_inj e = cc
-
   replaced_shape : c.puts.shape ≡ arrows args base
   replaced_shape =
       let p = c.puts in
@@ -154,7 +152,7 @@ module _ (sub : Spine) (shapes : List SimpleType) (by d n k : ℕ) (vs : Spine) 
       let lengths : m ≡ length shapes = args_count-length shapes p.target sub p.shaped_sub in
       let place : bound n ≡ next_by (length p.local) (bound (length shapes - suc k)) =
       ap bound (c.number ∙ ap₂ (λ i j. i + (j - suc k)) (sym p.depth_is) lengths) ∙ sym (next_by-bound (length p.local) (length shapes - suc k)) in
-      Some_inj (sym p.shaped.0 ∙ ap (under_all p.local (under_all shapes p.outer)) place
+      Some-Some (sym p.shaped.0 ∙ ap (under_all p.local (under_all shapes p.outer)) place
       ∙ under_all-next_by_length p.local (under_all shapes p.outer) (bound (length shapes - suc k)) ∙ under_all-bound shapes p.outer k (arrows args base) c.shape_is)
 
   term_shaped : Shaped c.puts.target u (arrows args base)

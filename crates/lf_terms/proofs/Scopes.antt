@@ -2,7 +2,7 @@
 use Rattle.std.proofs.Common.{◌≡◌, ℕ, zero, suc, ◌+◌, ◌-◌, ◌<◌, ◌≤◌, ◌↔◌, Option, Some, None, List, [], ◌∷◌, length, get_or, drop, if◌then◌else◌, nat_eq, refl, sym, ap, ap₂, ◌∙◌, subst, subst₂, arith, drop_of_length-le}
 use Rattle.std.proofs.lemmas.List.{drop_more}
 use Rattle.lf_definitions.specs.Syntax.{LfHead, bound, constant, metavariable, LfTerm, lam, at, Spine, arg, SimpleType, base, arrow, arrows, args_count, lams}
-use Rattle.lf_definitions.specs.Shaping.{under, under_all, globals, shape_at, shape_of_metavariable, Shaped, shaped_lam, shaped_at, ShapedSpine, shaped_none, shaped_arg}
+use Rattle.lf_definitions.specs.Shaping.{under, under_all, globals, shape_at, shape_of_metavariable, Shaped, shaped_at, ShapedSpine, shaped_none, shaped_arg}
 use Rattle.lf_definitions.specs.Shaping as shaping
 use Rattle.lf_definitions.proofs.Expansion.{stripped, Shaped-lams}
 use Rattle.lf_definitions.proofs.Telescopes.{next_by-bound, under_all-next_by_length, arity-arrows, arguments-arrows, args_count-length}

@@ -3,7 +3,7 @@ use Rattle.std.proofs.Common.{◌≡◌, ℕ, zero, suc, ◌+◌, ◌<◌, List,
 use Rattle.std.specs.Global.{Global}
 use Rattle.std.specs.declared.sync.Arc.{Arc}
 use Rattle.std.proofs.lemmas.List.{take_more}
-use Rattle.lf_definitions.specs.Syntax.{LfType, SimpleType, Spine, base, arrows, pis, family, shape_of, shapes_of_types, shape_size, shapes_size}
+use Rattle.lf_definitions.specs.Syntax.{SimpleType, shape_of, shapes_of_types, shape_size, shapes_size}
 use Rattle.lf_definitions.specs.Shaping.{shape_at}
 use Rattle.lf_terms.specs.declared.shape.Shape.{Shape}
 use Rattle.lf_terms.specs.Shapes.{simple_type_of, simple_types_of, kept_shapes}
@@ -51,10 +51,6 @@ pub shape_more : (ts : List Ty) (ss new : List Shape) (i : ℕ) (t : Ty) (s : Sh
 shape_more ts ss new i t s within is pushed before here =
     ap simple_types_of pushed ∙ simple_types_of-append ss s ∙ ap₂ (λ l r. l ++ r ∷ []) before here
     ∙ sym (shapes_of_types-append (take i ts) t) ∙ ap (λ l. shapes_of_types (types_of l)) (sym (take_read ts i t within is))
-
-pub shape_of-pis : (bs : List LfType) (f : ℕ) (args : Spine) → shape_of (pis bs (family f args)) ≡ arrows (shapes_of_types bs) base
-shape_of-pis [] f args = refl
-shape_of-pis (b ∷ bs) f args = ap (λ s. SimpleType.arrow (shape_of b) s) (shape_of-pis bs f args)
 
 pub item_size : (ss : List Shape) (i : ℕ) (s : Shape) → i < length ss → s ≡ get_or ss i s → shape_size (simple_type_of s) < shapes_size (simple_types_of ss)
 item_size [] i s within is = absurd (omega arith)

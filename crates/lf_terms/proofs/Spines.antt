@@ -1,6 +1,7 @@
 -- Lists of terms and the spines that they are.
-use Rattle.std.proofs.Common.{◌≡◌, ℕ, zero, suc, ◌+◌, ◌<◌, List, [], ◌∷◌, ◌++◌, length, get_or, take, Option, Some, refl, sym, ap, ap₂, ◌∙◌, arith, add-one}
+use Rattle.std.proofs.Common.{◌≡◌, ℕ, zero, suc, ◌+◌, ◌<◌, List, [], ◌∷◌, ◌++◌, length, get_or, take, Some, refl, sym, ap, ap₂, ◌∙◌, arith, add-one}
 use Rattle.lf_definitions.specs.Syntax.{LfTerm, Spine, no_args, arg, args_count, arg_at, joined, term_size, spine_size}
+use Rattle.lf_definitions.proofs.Options.{Some-Some}
 use Rattle.lf_terms.specs.declared.head.Head.{Head}
 use Rattle.lf_terms.specs.declared.head.Head.TheVariants.{Bound, Const, Meta}
 use Rattle.lf_terms.specs.declared.term.Term.{Term}
@@ -42,10 +43,7 @@ same_take_more xs ys i x y within lengths x_is y_is before here =
 pub same_at : (xs ys : List Term) (i : ℕ) (x y : Term) → i < length xs → length xs ≡ length ys → x ≡ get_or xs i x → y ≡ get_or ys i y →
     spine_of xs ≡ spine_of ys → term_of x ≡ term_of y
 same_at xs ys i x y within lengths x_is y_is e =
-    Some_inj (sym (arg_at-spine_of xs i x within x_is) ∙ ap (λ s. arg_at s i) e ∙ arg_at-spine_of ys i y (omega arith) y_is)
-  where
-    Some_inj : {t u : LfTerm} → ◌≡◌ {A = Option LfTerm} (Some t) (Some u) → t ≡ u
-    Some_inj e = cc
+    Some-Some (sym (arg_at-spine_of xs i x within x_is) ∙ ap (λ s. arg_at s i) e ∙ arg_at-spine_of ys i y (omega arith) y_is)
 
 pub length_of_spine : (xs ys : List Term) → spine_of xs ≡ spine_of ys → length xs ≡ length ys
 length_of_spine xs ys e = sym (args_count-spine_of xs) ∙ ap args_count e ∙ args_count-spine_of ys

@@ -1,11 +1,12 @@
 -- Lists of types as plain data.
-use Rattle.std.proofs.Common.{◌≡◌, ℕ, zero, suc, ◌+◌, ◌<◌, List, [], ◌∷◌, ◌++◌, length, get_or, take, drop, Option, Some, refl, sym, ap, ap₂, ◌∙◌, arith}
+use Rattle.std.proofs.Common.{◌≡◌, ℕ, zero, suc, ◌+◌, ◌<◌, List, [], ◌∷◌, ◌++◌, length, get_or, take, drop, Some, refl, sym, ap, ap₂, ◌∙◌, arith}
 use Rattle.lf_terms.specs.declared.ty.Ty.{Ty}
 use Rattle.lf_terms.specs.Types.{type_of, types_of}
 use Rattle.lf_terms.specs.TypeSizes.{some_size}
 use Rattle.lf_terms.proofs.ShapeLists.{take_read}
 use Rattle.lf_definitions.specs.Syntax.{LfType, pi, family, pis, Spine, type_size, types_size}
 use Rattle.lf_definitions.specs.Typing.{type_at}
+use Rattle.lf_definitions.proofs.Options.{Some-Some}
 
 pub length-types_of : (ts : List Ty) → length (types_of ts) ≡ length ts
 length-types_of [] = refl
@@ -45,10 +46,7 @@ same_types_more xs ys i x y within lengths x_is y_is before here =
 pub same_type_at : (xs ys : List Ty) (i : ℕ) (x y : Ty) → i < length xs → length xs ≡ length ys → x ≡ get_or xs i x → y ≡ get_or ys i y →
     types_of xs ≡ types_of ys → type_of x ≡ type_of y
 same_type_at xs ys i x y within lengths x_is y_is e =
-    Some_inj (sym (type_at-types_of xs i x within x_is) ∙ ap (λ l. type_at l i) e ∙ type_at-types_of ys i y (omega arith) y_is)
-  where
-    Some_inj : {a b : LfType} → ◌≡◌ {A = Option LfType} (Some a) (Some b) → a ≡ b
-    Some_inj e = cc
+    Some-Some (sym (type_at-types_of xs i x within x_is) ∙ ap (λ l. type_at l i) e ∙ type_at-types_of ys i y (omega arith) y_is)
 
 pub length_of_types : (xs ys : List Ty) → types_of xs ≡ types_of ys → length xs ≡ length ys
 length_of_types xs ys e = sym (length-types_of xs) ∙ ap length e ∙ length-types_of ys

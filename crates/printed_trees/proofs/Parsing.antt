@@ -8,14 +8,14 @@ use Rattle.std.proofs.lemmas.Slice.Eq.{bytes_eq-Decides}
 use Rattle.lex_text.specs.declared.mark.Mark.TheVariants.{Word, Colon, Arrow, RParen, LBrace, RBrace}
 use Rattle.lex_text.specs.declared.token.Token.{Token}
 use Rattle.file_trees.specs.declared.span.Span.{Span}
-use Rattle.file_trees.specs.Trees.{Tree, leaf, abstraction, head, apply_all, applied, Classifier}
+use Rattle.file_trees.specs.Trees.{Tree, leaf, abstraction, head, applied, Classifier}
 use Rattle.file_trees.specs.Trees as trees
 use Rattle.file_syntax.specs.declared.sign.Sign.{Sign}
 use Rattle.file_syntax.specs.declared.sign.Sign.TheVariants as signs
 use Rattle.file_syntax.specs.Signs.{keyword_of, sign_of, signs_of}
 use Rattle.file_syntax.specs.Productions.{IsTerm, abstracts, applies, IsArgument, name, variable, term, AreArguments, no_more, one_more, IsType, binds, ends, goes_to, IsSimple, family_of, group, a_variable, joined, up_to}
 use Rattle.lf_definitions.specs.Syntax.{LfHead, bound, constant, metavariable, LfTerm, lam, at, Spine, no_args, arg, LfType, pi, family}
-use Rattle.lf_definitions.specs.Signatures.{LfSignature, names_of, constant_names, family_names}
+use Rattle.lf_definitions.specs.Signatures.{LfSignature, names_of, constant_names, family_names, name_at}
 use Rattle.elab_terms.specs.Names.{Text, text_at}
 use Rattle.elab_terms.specs.Applied.{IsApplied}
 use Rattle.elab_terms.specs.Types.{IsBinder, pi_binder, arrow_binder}
@@ -23,7 +23,7 @@ use Rattle.elab_terms.proofs.Applications.{base_of-apply_all, arguments_of_appli
 use Rattle.file_elab.specs.GrammarNames.{IsGrammarName}
 use Rattle.file_print.specs.Mentions.{mentions}
 use Rattle.file_print.specs.Printable.{IsPrintableHead, IsPrintable, ArePrintable, IsPrintableType}
-use Rattle.file_print.specs.Texts.{name_at, variable_text, head_text, is_name, has_binders}
+use Rattle.file_print.specs.Texts.{variable_text, head_text, is_name, has_binders}
 use Rattle.printed_tokens.specs.Pieces.{Piece, space, piece, variable_piece, head_piece, in_parentheses, tokens_from, term_pieces, args_pieces, type_pieces}
 use Rattle.printed_tokens.proofs.PieceTexts.{type_text-pieces}
 use Rattle.printed_tokens.proofs.Spelling.{AreNamed, are_named, type_is_spelled}

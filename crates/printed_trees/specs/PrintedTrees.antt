@@ -1,7 +1,7 @@
 -- Trees that are those of printed terms and types: the names stand in the text where the tree says.
 use Rattle.std.specs.Prelude.{◌≡◌, ℕ, suc, List, [], ◌∷◌, Bool, true, false, Option, Some, None}
 use Rattle.lf_definitions.specs.Syntax.{LfHead, LfTerm, lam, at, Spine, no_args, arg, LfType, pi, family}
-use Rattle.lf_definitions.specs.Signatures.{LfSignature, family_names}
+use Rattle.lf_definitions.specs.Signatures.{LfSignature, family_names, name_at}
 use Rattle.file_trees.specs.declared.span.Span.{Span}
 use Rattle.file_trees.specs.Trees.{Tree, leaf, abstraction, Classifier}
 use Rattle.file_trees.specs.Trees as trees
@@ -9,7 +9,7 @@ use Rattle.elab_terms.specs.Names.{Text, text_at, binder_name}
 use Rattle.elab_terms.specs.Applied.{IsApplied}
 use Rattle.elab_terms.specs.Types.{IsBinder}
 use Rattle.file_print.specs.Mentions.{mentions}
-use Rattle.file_print.specs.Texts.{name_at, variable_text, head_text}
+use Rattle.file_print.specs.Texts.{variable_text, head_text}
 
 mutual
   pub data IsPrintedTerm (text : Text) (sig : LfSignature) : (depth : ℕ) → LfTerm → Tree → Type 0 where

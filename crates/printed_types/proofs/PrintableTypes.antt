@@ -1,8 +1,8 @@
 -- Well-formed types with no variables outside can be printed.
-use Rattle.std.proofs.Common.{◌≡◌, ℕ, zero, suc, ◌<◌, ◌≤◌, List, [], ◌∷◌, Bool, true, false, length, Option, Some, None, refl, sym, ap, ◌∙◌, subst, ◌⊎◌, inl, inr, ⊎_elim, arith}
-use Rattle.std.specs.Prelude.{◌||◌, nat_eq, option_map, All}
-use Rattle.std.proofs.lemmas.Bool.{eqb-true, cases_Bool}
-use Rattle.lf_definitions.specs.Syntax.{LfHead, bound, constant, metavariable, LfTerm, lam, at, Spine, no_args, arg, LfType, pi, family}
+use Rattle.std.proofs.Common.{◌≡◌, ℕ, zero, suc, ◌<◌, List, [], ◌∷◌, Bool, true, false, length, Option, Some, None, refl, sym, ap, ◌∙◌, subst, ◌⊎◌, inl, inr, ⊎_elim, arith}
+use Rattle.std.specs.Prelude.{◌||◌, option_map, All}
+use Rattle.std.proofs.lemmas.Bool.{eqb-true}
+use Rattle.lf_definitions.specs.Syntax.{LfHead, bound, constant, metavariable, LfTerm, Spine, LfType}
 use Rattle.lf_definitions.specs.Renaming.{raise_type}
 use Rattle.lf_definitions.specs.Substitution.{Replacement}
 use Rattle.lf_definitions.specs.Typing.{Typing, Kinds, Typed, typed_lam, typed_at, TypedSpine, typed_none, typed_arg, Formed, formed_pi, formed_family, with_variable, type_at}

@@ -1,6 +1,6 @@
 -- What the names in a printed text stand for.
-use Rattle.std.proofs.Common.{◌≡◌, ◌≢◌, ℕ, zero, suc, ◌+◌, ◌-◌, ◌<◌, ◌≤◌, ◌^◌, List, [], ◌∷◌, ◌++◌, Bool, true, false, cond, length, Option, Some, None, refl, sym, ap, ◌∙◌, subst, ⊎_elim, arith}
-use Rattle.std.specs.Prelude.{codes, decimal, option_map, slice_get, slice_index_or, All}
+use Rattle.std.proofs.Common.{◌≡◌, ◌≢◌, ℕ, zero, suc, ◌-◌, ◌<◌, ◌≤◌, ◌^◌, List, [], ◌∷◌, false, cond, Some, None, refl, sym, ap, ◌∙◌, subst, ⊎_elim, arith}
+use Rattle.std.specs.Prelude.{decimal, option_map, slice_get}
 use Rattle.std.specs.Str.{bytes_eq}
 use Rattle.std.proofs.lemmas.Bool.{cases_Bool}
 use Rattle.std.proofs.lemmas.Fmt.{decimal_injective}
@@ -10,13 +10,13 @@ use Rattle.unicode_ident.proofs.Computing.{unicode_ident}
 use Rattle.lex_text.specs.Characters.{Spells, MayStart}
 use Rattle.lex_text.specs.Tokens.{IsWord}
 use Rattle.lf_terms.specs.Places.{place_of}
-use Rattle.lf_definitions.specs.Syntax.{LfHead, bound, constant, LfType}
+use Rattle.lf_definitions.specs.Syntax.{bound, constant, LfType}
 use Rattle.lf_definitions.specs.Typing.{type_at}
-use Rattle.lf_definitions.specs.Signatures.{LfSignature, family_entry, constant_entry, constant_names, constant_types, family_names, kinds_in, FormedSignature}
+use Rattle.lf_definitions.specs.Signatures.{LfSignature, family_entry, constant_entry, constant_names, constant_types, family_names, kinds_in, FormedSignature, name_at}
 use Rattle.elab_terms.specs.Names.{Bound, variable_of, head_or, head_of, family_or, family_of}
 use Rattle.elab_terms.proofs.SignatureNames.{find_constant, find_family}
 use Rattle.file_elab.specs.GrammarNames.{IsGrammarName}
-use Rattle.file_print.specs.Texts.{name_at, variable_text}
+use Rattle.file_print.specs.Texts.{variable_text}
 use Rattle.printed_tokens.proofs.Names.{variable_spelled}
 
 -- The binders around a place of a printed text, each with its name or, where nothing mentions it, with none.

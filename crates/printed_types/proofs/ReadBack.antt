@@ -1,15 +1,15 @@
 -- Elaborating the tree of a printed type gives the type.
-use Rattle.std.proofs.Common.{◌≡◌, ℕ, zero, suc, ◌+◌, ◌<◌, ◌≤◌, ◌^◌, List, [], ◌∷◌, ◌++◌, Bool, true, false, length, Option, Some, None, refl, sym, ap, ◌∙◌, subst, arith}
-use Rattle.std.specs.Prelude.{◌||◌, nat_eq, All}
+use Rattle.std.proofs.Common.{◌≡◌, ℕ, zero, suc, ◌<◌, ◌^◌, List, [], ◌∷◌, Bool, true, false, Option, Some, None, refl, sym, ap, ◌∙◌, subst, arith}
+use Rattle.std.specs.Prelude.{◌||◌, nat_eq}
 use Rattle.std.proofs.lemmas.Bool.{eq-eqb}
 use Rattle.std.proofs.lemmas.List.{append-nil}
-use Rattle.lf_definitions.specs.Syntax.{LfHead, bound, constant, metavariable, LfTerm, lam, at, Spine, no_args, arg, LfType, pi, family, pis, base}
-use Rattle.lf_definitions.specs.Substitution.{Replacement, stays, push, push_all, SubstitutedType, substituted_family}
+use Rattle.lf_definitions.specs.Syntax.{LfHead, bound, constant, metavariable, LfTerm, lam, at, Spine, LfType, pi, family, pis, base}
+use Rattle.lf_definitions.specs.Substitution.{Replacement, substituted_family}
 use Rattle.lf_definitions.specs.Typing.{Typing, Kinds, Typed, typed_lam, typed_at, TypedSpine, typed_none, typed_arg, Formed, formed_pi, formed_family, with_variable, type_at}
-use Rattle.lf_definitions.specs.Signatures.{LfSignature, constant_names, constant_types, family_names, kinds_in, typing_in, FormedSignature}
+use Rattle.lf_definitions.specs.Signatures.{LfSignature, constant_types, kinds_in, typing_in, FormedSignature}
 use Rattle.file_trees.specs.Trees.{Tree, Classifier}
-use Rattle.elab_terms.specs.Names.{Text, Bound, binder_name, head_of, family_of}
-use Rattle.elab_terms.specs.Terms.{ReadsTerm, reads_abstraction, reads_application, ReadsArguments, reads_none, reads_argument, expanded}
+use Rattle.elab_terms.specs.Names.{Text, Bound, head_of, family_of}
+use Rattle.elab_terms.specs.Terms.{ReadsTerm, reads_abstraction, reads_application, ReadsArguments, reads_none, reads_argument}
 use Rattle.elab_terms.specs.Types.{ReadsType, reads_binder, reads_family}
 use Rattle.elab_terms.proofs.Expanding.{expanded_none}
 use Rattle.file_print.specs.Mentions.{mentions_in_term, mentions_in_spine, mentions, is_variable}

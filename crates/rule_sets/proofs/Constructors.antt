@@ -1,5 +1,5 @@
 -- Lists of constructors, one more at a time.
-use Rattle.std.proofs.Common.{◌≡◌, ℕ, zero, suc, ◌+◌, ◌<◌, ◌≤◌, List, [], ◌∷◌, ◌++◌, length, get_or, take, Option, Some, None, refl, sym, ap, ◌∙◌, subst, arith, ◌⊎◌, inl, inr}
+use Rattle.std.proofs.Common.{◌≡◌, ℕ, zero, suc, ◌+◌, ◌<◌, ◌≤◌, List, [], ◌∷◌, ◌++◌, length, get_or, take, Option, Some, None, refl, sym, ap, ◌∙◌, subst, arith, ◌⊎◌, inl, inr, Bool, not}
 use Rattle.std.specs.Prelude.{slice_get, Contains, nat_eq, true, false, cond}
 use Rattle.std.proofs.lemmas.List.{take_more, take-append-le, take_at}
 use Rattle.std.specs.Cmp.{nat_eq_equiv}
@@ -8,10 +8,10 @@ use Rattle.std.proofs.lemmas.Bool.{eqb-true}
 use Rattle.std.proofs.lemmas.Map.Views.{Contains-from_any, list_any-from_Contains}
 use Rattle.std.proofs.lemmas.Option.{slice_get-get_or}
 use Rattle.indexmap.specs.IndexSet.{insert_key}
-use Rattle.lf_definitions.specs.Syntax.{LfType}
-use Rattle.lf_definitions.specs.Signatures.{LfSignature, family_entry, constant_entry, constant_names, constant_types}
+use Rattle.lf_definitions.specs.Syntax.{LfType, conclusion}
+use Rattle.lf_definitions.specs.Signatures.{LfSignature, constant_types}
 use Rattle.rule_sets.specs.Books.{Book, list_of}
-use Rattle.rule_sets.specs.Refusals.{AreConstructors, HasFamily, conclusion, IsFirstFaultOfList, list_repeated, list_other}
+use Rattle.rule_sets.specs.Refusals.{AreConstructors, HasFamily, IsFirstFaultOfList, list_repeated, list_other}
 use Rattle.rule_sets.specs.declared.rule.CtorFault.TheVariants.{Repeated, Other}
 
 pub slice_get-last : {X : Type 0} (xs : List X) (c d : X) (place : ℕ) → slice_get (xs ++ c ∷ []) place ≡ Some d → ((place < length xs) × (slice_get xs place ≡ Some d)) ⊎ ((place ≡ length xs) × (c ≡ d))
@@ -38,10 +38,14 @@ constructors_last sig f xs c good new has place d e =
           (subst P (sym all) (subst Q same new), subst R same has)
     ]
 
-pub length-constant_names : (sig : LfSignature) → length (constant_names sig) ≡ length (constant_types sig)
-length-constant_names [] = refl
-length-constant_names (family_entry name kind ∷ sig) = length-constant_names sig
-length-constant_names (constant_entry name type ∷ sig) = ap suc (length-constant_names sig)
+-- whether a set took a constant as new, which is true where it had not been there
+pub was_seen : (b new : Bool) → new ≡ not b → new ≡ false → b ≡ true
+was_seen true new is old = cc
+was_seen false new is old = absurd cc
+
+pub was_unseen : (b new : Bool) → new ≡ not b → new ≡ true → b ≡ false
+was_unseen true new is old = absurd cc
+was_unseen false new is old = cc
 
 pub has_family : (sig : LfSignature) (f c : ℕ) (a : LfType) → slice_get (constant_types sig) c ≡ Some a → conclusion a ≡ f → HasFamily sig f c
 has_family sig f c a is ends = record { type = a; type_is = is; family_is = ends }

@@ -2,6 +2,7 @@
 use Rattle.std.proofs.Common.{◌≡◌, ℕ, zero, suc, ◌<◌, List, [], ◌∷◌, Option, Some, refl, sym, ap, ap₂, ◌∙◌, subst, arith, inl, inr, ◌⊎◌}
 use Rattle.std.specs.Prelude.{slice_get}
 use Rattle.std.proofs.lemmas.Int.{ints}
+use Rattle.lf_definitions.proofs.Options.{Some-Some}
 use Rattle.rule_sets.specs.declared.rule.Phase.{Phase}
 use Rattle.rule_sets.specs.declared.rule.Rule.{Rule}
 use Rattle.rule_sets.specs.Books.{Book}
@@ -16,13 +17,10 @@ not_both _ _ (lower_norm p q less) (lower_norm _ _ more) = omega (arith, ints)
 not_both _ _ (lower_safe p q less) (lower_safe _ _ more) = omega (arith, ints)
 not_both _ _ (higher_unsafe m n less) (higher_unsafe _ _ more) = omega arith
 
-rule_inj : {a b : Rule} → ◌≡◌ {A = Option Rule} (Some a) (Some b) → a ≡ b
-rule_inj e = cc
-
 tried_once : (book : Book) (a b : ℕ) → IsTriedBefore book a b → IsTriedBefore book b a → ⊥
 tried_once book a b h k =
-    let first : h.rule.phase ≡ k.other.phase = ap (λ (r : Rule). r.phase) (rule_inj (sym h.rule_is ∙ k.other_is)) in
-    let second : h.other.phase ≡ k.rule.phase = ap (λ (r : Rule). r.phase) (rule_inj (sym h.other_is ∙ k.rule_is)) in
+    let first : h.rule.phase ≡ k.other.phase = ap (λ (r : Rule). r.phase) (Some-Some (sym h.rule_is ∙ k.other_is)) in
+    let second : h.other.phase ≡ k.rule.phase = ap (λ (r : Rule). r.phase) (Some-Some (sym h.other_is ∙ k.rule_is)) in
     let P : Phase → Type 0 = IsBefore h.rule.phase in
     let Q : Phase → Type 0 = λ p. IsBefore p h.rule.phase in
     elim h.before [

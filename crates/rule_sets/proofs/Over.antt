@@ -1,9 +1,11 @@
 -- Books that were added over a signature.
-use Rattle.std.proofs.Common.{◌≡◌, ℕ, zero, suc, ◌<◌, ◌≤◌, List, [], ◌∷◌, ◌++◌, length, Option, Some, None, Result, Ok, Err, refl, sym, ap, ◌∙◌, subst, arith, length-append, inl, inr, if◌then◌else◌, Bool, true, false}
+use Rattle.std.proofs.Common.{◌≡◌, ℕ, suc, ◌<◌, ◌≤◌, List, [], ◌∷◌, ◌++◌, length, Option, Some, None, Result, Ok, Err, refl, sym, ap, ◌∙◌, subst, arith, length-append, inl, inr, if◌then◌else◌, Bool, true, false}
 use Rattle.std.specs.Prelude.{slice_get, nat_eq}
 use Rattle.std.proofs.lemmas.List.Elements.{All-nil, All-cons, All-append, All-weaker}
 use Rattle.lf_definitions.specs.Syntax.{LfType}
-use Rattle.lf_definitions.specs.Signatures.{LfSignature, family_entry, constant_entry, constant_types, family_kinds}
+use Rattle.lf_definitions.specs.Signatures.{LfSignature, constant_types, family_kinds}
+use Rattle.lf_definitions.proofs.Growth.{constant_types-append, family_kinds-append}
+use Rattle.lf_definitions.proofs.Lists.{slice_get-front}
 use Rattle.rule_sets.specs.declared.rule.Builder.{Builder}
 use Rattle.rule_sets.specs.declared.rule.Builder.TheVariants.{Apply, Constructors, Cases, Forward, Destruct, Assumption, Hyps}
 use Rattle.rule_sets.specs.declared.rule.Rule.{Rule}
@@ -14,21 +16,6 @@ use Rattle.rule_sets.specs.declared.rule.CtorFault.TheVariants as ctors
 use Rattle.rule_sets.specs.Books.{Book, Listed, list_of, first_book}
 use Rattle.rule_sets.specs.Refusals.{HasNoSubject, IsMajor, IsBadMajor, HasPremises, HasBadPremises, IsRuleOver, Adds, AddsList, AreConstructors, IsListOver, IsOver}
 use Rattle.rule_sets.proofs.Constructors.{slice_get-last}
-
-constant_types-append : (sig more : LfSignature) → constant_types (sig ++ more) ≡ constant_types sig ++ constant_types more
-constant_types-append [] more = refl
-constant_types-append (family_entry name kind ∷ sig) more = constant_types-append sig more
-constant_types-append (constant_entry name type ∷ sig) more = ap (λ l. type ∷ l) (constant_types-append sig more)
-
-family_kinds-append : (sig more : LfSignature) → family_kinds (sig ++ more) ≡ family_kinds sig ++ family_kinds more
-family_kinds-append [] more = refl
-family_kinds-append (family_entry name kind ∷ sig) more = ap (λ l. kind ∷ l) (family_kinds-append sig more)
-family_kinds-append (constant_entry name type ∷ sig) more = family_kinds-append sig more
-
-slice_get-front : {X : Type 0} (xs ys : List X) (i : ℕ) (x : X) → slice_get xs i ≡ Some x → slice_get (xs ++ ys) i ≡ Some x
-slice_get-front [] ys i x e = absurd cc
-slice_get-front (y ∷ xs) ys zero x e = e
-slice_get-front (y ∷ xs) ys (suc i) x e = slice_get-front xs ys i x e
 
 -- What a longer signature keeps.
 module _ (sig more : LfSignature) where

@@ -14,6 +14,7 @@ use Rattle.std.proofs.lemmas.List.Sorted.{sorted_far, ranks_by, Contains-permuta
 use Rattle.std.proofs.lemmas.Map.Keys.{IsDistinct-push, IsDistinct-IsPermutation, apart_from_distinct}
 use Rattle.std.proofs.lemmas.Int.{ints}
 use Rattle.std.proofs.lemmas.Option.{slice_get_within, slice_get_read, get_or_from_slice_get}
+use Rattle.lf_definitions.proofs.Options.{Some-Some}
 use Rattle.rule_sets.specs.declared.rule.Phase.{Phase}
 use Rattle.rule_sets.specs.declared.rule.Phase.TheVariants.{Norm, Safe, Unsafe}
 use Rattle.rule_sets.specs.declared.rule.Rule.{Rule}
@@ -51,9 +52,6 @@ at_number (u ∷ ts) zero t e = ap (λ (x : Turn). Some x.number) (inj e)
     inj : {a b : Turn} → ◌≡◌ {A = Option Turn} (Some a) (Some b) → a ≡ b
     inj e = cc
 at_number (u ∷ ts) (suc i) t e = at_number ts i t e
-
-rule_inj : {a b : Rule} → ◌≡◌ {A = Option Rule} (Some a) (Some b) → a ≡ b
-rule_inj e = cc
 
 -- Turns, one more.
 
@@ -99,7 +97,7 @@ module _ (book : Book) (chosen : List (List ℕ)) (n : ℕ) (turns : List Turn) 
     all = λ number r within is has.
         below_more (λ k. (r : Rule) → slice_get book.rules k ≡ Some r → Contains chosen r.set → Contains turns (record { phase = r.phase; number = k })) n
         (λ k less r is has. so_far.all k r less is has)
-        (λ r is has. let P : Rule → Type 0 = λ x. Contains chosen x.set in absurd (other (subst P (rule_inj (sym is ∙ rule_is)) has)))
+        (λ r is has. let P : Rule → Type 0 = λ x. Contains chosen x.set in absurd (other (subst P (Some-Some (sym is ∙ rule_is)) has)))
         number within r is has;
     below = all_lower turns so_far.below;
     apart = so_far.apart;
@@ -117,7 +115,7 @@ module _ (book : Book) (chosen : List (List ℕ)) (n : ℕ) (turns : List Turn) 
             (λ k less r is has. Contains-append_left turns (turn ∷ []) _ (so_far.all k r less is has))
             (λ r is has.
             let Q : Rule → Type 0 = λ x. Contains (turns ++ turn ∷ []) (record { phase = x.phase; number = n }) in
-            subst Q (rule_inj (sym rule_is ∙ is)) (Contains-append_right turns (turn ∷ []) turn (0, omega arith, refl)))
+            subst Q (Some-Some (sym rule_is ∙ is)) (Contains-append_right turns (turn ∷ []) turn (0, omega arith, refl)))
             number within r is has;
         below = All-append (λ t. t.number < n + 1) turns (turn ∷ []) (all_lower turns so_far.below) (All-cons (λ t. t.number < n + 1) turn [] (omega arith) (All-nil (λ t. t.number < n + 1)));
         apart = IsDistinct-push same_number_equiv turns turn so_far.apart (none_like n turns so_far.below);

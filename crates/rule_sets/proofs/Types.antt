@@ -1,12 +1,13 @@
 -- Binders of types: how many there are, and the argument at a place.
-use Rattle.std.proofs.Common.{◌≡◌, ◌↔◌, ℕ, zero, suc, ◌<◌, List, [], ◌∷◌, length, get_or, Option, Some, refl, sym, ap, ◌∙◌, subst, arith, ◌⊎◌, inl, inr}
+use Rattle.std.proofs.Common.{◌≡◌, ◌↔◌, ℕ, zero, suc, ◌<◌, List, [], ◌∷◌, length, get_or, Some, refl, sym, ap, ◌∙◌, subst, arith, ◌⊎◌, inl, inr}
 use Rattle.std.specs.Prelude.{slice_get}
 use Rattle.std.proofs.lemmas.Option.{slice_get_within}
 use Rattle.lf_definitions.specs.Syntax.{LfType, family, pis, Spine}
+use Rattle.lf_definitions.proofs.Options.{Some-Some}
 use Rattle.lf_terms.specs.declared.ty.Ty.{Ty}
 use Rattle.lf_terms.specs.Types.{type_of, types_of}
 use Rattle.lf_terms.proofs.TypeLists.{length-types_of}
-use Rattle.rule_sets.specs.Refusals.{IsAtomic, argument_at, conclusion}
+use Rattle.rule_sets.specs.Refusals.{IsAtomic, argument_at}
 use Rattle.rule_sets.specs.Tests.{HasMajor}
 
 pub atomic_with_none : (bs : List LfType) (f : ℕ) (args : Spine) → length bs ≡ 0 → IsAtomic (pis bs (family f args))
@@ -16,10 +17,6 @@ atomic_with_none (b ∷ bs) f args none = absurd (omega arith)
 pub none_with_atomic : (bs : List LfType) (f : ℕ) (args : Spine) → IsAtomic (pis bs (family f args)) → length bs ≡ 0
 none_with_atomic [] f args atomic = refl
 none_with_atomic (b ∷ bs) f args atomic = absurd atomic
-
-pub conclusion-pis : (bs : List LfType) (f : ℕ) (args : Spine) → conclusion (pis bs (family f args)) ≡ f
-conclusion-pis [] f args = refl
-conclusion-pis (b ∷ bs) f args = conclusion-pis bs f args
 
 pub argument_at-pis : (bs : List LfType) (f : ℕ) (args : Spine) (k : ℕ) → argument_at (pis bs (family f args)) k ≡ slice_get bs k
 argument_at-pis [] f args k = refl
@@ -35,9 +32,6 @@ slice_get-types_of (u ∷ ts) (suc k) t within is = slice_get-types_of ts k t (o
 argument_read : (ts : List Ty) (f : ℕ) (args : Spine) (k : ℕ) (t : Ty) → k < length ts → t ≡ get_or ts k t → argument_at (pis (types_of ts) (family f args)) k ≡ Some (type_of t)
 argument_read ts f args k t within is = argument_at-pis (types_of ts) f args k ∙ slice_get-types_of ts k t within is
 
-Some_inj : {a b : LfType} → ◌≡◌ {A = Option LfType} (Some a) (Some b) → a ≡ b
-Some_inj e = cc
-
 pub major_read : (ts : List Ty) (bs : List LfType) (f : ℕ) (args : Spine) (major k : ℕ) (t : Ty) → types_of ts ≡ bs → major ≡ suc k → k < length ts → t ≡ get_or ts k t →
     HasMajor (pis bs (family f args)) major ↔ IsAtomic (type_of t)
 major_read ts bs f args major k t all number within is =
@@ -45,7 +39,7 @@ major_read ts bs f args major k t all number within is =
     let P : LfType → Type 0 = IsAtomic in (
       λ has.
           let same : has.place ≡ k = omega (arith, has.place_is) in
-          subst P (Some_inj (sym has.argument_is ∙ ap (argument_at (pis bs (family f args))) same ∙ here)) has.atomic,
+          subst P (Some-Some (sym has.argument_is ∙ ap (argument_at (pis bs (family f args))) same ∙ here)) has.atomic,
       λ atomic. record { place = k; argument = type_of t; place_is = number; argument_is = here; atomic = atomic },
     )
 

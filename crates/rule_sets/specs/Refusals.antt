@@ -1,6 +1,6 @@
 -- Which rules and lists of constructors a book refuses over a signature, and for which reason.
 use Rattle.std.specs.Prelude.{◌≡◌, ◌≢◌, ℕ, suc, zero, ◌<◌, ◌≤◌, List, [], ◌∷◌, ◌++◌, length, Option, Some, None, slice_get, map, All, Contains, take, Result, Ok, Err}
-use Rattle.lf_definitions.specs.Syntax.{LfType, pi, family}
+use Rattle.lf_definitions.specs.Syntax.{LfType, pi, family, conclusion}
 use Rattle.lf_definitions.specs.Signatures.{LfSignature, constant_types, family_kinds}
 use Rattle.lf_definitions.specs.Occurrence as occurrence
 use Rattle.rule_sets.specs.declared.rule.Phase.{Phase}
@@ -18,11 +18,6 @@ use Rattle.rule_sets.specs.Books.{Book, Listed, list_of}
 abbrev pub IsAtomic : LfType → Type 0
 IsAtomic (pi a b) = ⊥
 IsAtomic (family f args) = Unit {0}
-
--- the family of a type's conclusion
-abbrev pub conclusion : LfType → ℕ
-conclusion (pi a b) = conclusion b
-conclusion (family f args) = f
 
 -- the type of the argument at a place, from 0
 abbrev pub argument_at : LfType → ℕ → Option LfType

@@ -4,6 +4,7 @@ use Rattle.std.specs.Prelude.{codes, if◌then◌else◌}
 use Rattle.std.proofs.Math.Dec.{eqb-suc-zero}
 use Rattle.std.proofs.lemmas.List.Concat.{flat_map-append}
 use Rattle.lf_definitions.specs.Syntax.{at, constant, no_args, arg, joined}
+use Rattle.lf_definitions.specs.Signatures.{name_at}
 use Rattle.small_programs.specs.declared.small.SmallProgram.{SmallProgram}
 use Rattle.small_programs.specs.declared.small.SmallConst.{SmallConst}
 use Rattle.small_programs.specs.Names.{constant_names, rule_names}
@@ -13,7 +14,7 @@ use Rattle.std.proofs.lemmas.List.{get_or_default}
 use Rattle.std.proofs.lemmas.Option.{slice_get_read}
 use Rattle.small_search.proofs.Lists.{slice_get-push_cases}
 use Rattle.small_answers.specs.declared.lengths.Length.{Length}
-use Rattle.small_answers.specs.Texts.{name_at, has_args, in_parentheses, term_text, args_text, step_line, script_text}
+use Rattle.small_answers.specs.Texts.{has_args, in_parentheses, term_text, args_text, step_line, script_text}
 use Rattle.small_answers.specs.Chosen.{IsChosen, gives_none}
 use Rattle.small_answers.specs.Lengths.{most, IsSums, IsLength, AreLengths}
 use Rattle.small_answers.proofs.Ranks.{StandsAt}

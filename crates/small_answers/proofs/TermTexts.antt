@@ -5,12 +5,13 @@ use Rattle.std.proofs.lemmas.List.{get_or-map, flat_map_more}
 use Rattle.std.proofs.lemmas.Bool.{lt-ltb}
 use Rattle.std.proofs.lemmas.Option.{slice_get_within, get_or_from_slice_get}
 use Rattle.lf_definitions.specs.Syntax.{LfTerm, at, constant, Spine, no_args, arg, joined}
+use Rattle.lf_definitions.specs.Signatures.{name_at}
 use Rattle.small_programs.specs.declared.small.SmallProgram.{SmallProgram}
 use Rattle.small_programs.specs.declared.small.SmallConst.{SmallConst}
 use Rattle.small_programs.specs.declared.small.SmallRule.{SmallRule}
 use Rattle.small_programs.specs.Names.{constant_names, rule_names}
 use Rattle.small_search.specs.declared.closing.Closing.{Closing}
-use Rattle.small_answers.specs.Texts.{name_at, has_args, in_parentheses, term_text, args_text, step_line, script_text}
+use Rattle.small_answers.specs.Texts.{has_args, in_parentheses, term_text, args_text, step_line, script_text}
 use Rattle.small_answers.specs.Chosen.{IsChosen, GivesTerms, gives_none, gives_one, GivesTerm}
 use Rattle.small_answers.specs.Additions.{AddsNumbers, AddsArgs, AddsTerm}
 use Rattle.small_answers.proofs.TableTerms.{IsChosen-one, GivesTerms-join, GivesTerms-push, GivesTerm-chosen}

@@ -1,15 +1,12 @@
 -- The texts of terms and of scripts, by the names of constants and rules.
-use Rattle.std.specs.Prelude.{ℕ, List, [], ◌∷◌, ◌++◌, codes, Bool, true, false, slice_index_or}
+use Rattle.std.specs.Prelude.{ℕ, List, [], ◌∷◌, ◌++◌, codes, Bool, true, false}
 use Rattle.std.specs.List.{flat_map}
 use Rattle.lf_definitions.specs.Syntax.{bound, constant, metavariable, LfTerm, lam, at, Spine, no_args, arg}
+use Rattle.lf_definitions.specs.Signatures.{name_at}
 
 -- these bytes and a line feed
 abbrev pub line : List ℕ → List ℕ
 line bytes = bytes ++ 10 ∷ []
-
--- the name of this number
-abbrev pub name_at : List (List ℕ) → ℕ → List ℕ
-name_at names number = slice_index_or names number []
 
 abbrev pub has_args : LfTerm → Bool
 has_args (lam b) = false

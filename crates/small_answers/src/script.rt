@@ -1,9 +1,10 @@
 //! The text of a script.
 
 ghost use Rattle.std.specs.Prelude.{◌≡◌, ◌++◌, OnOk, All};
+ghost use Rattle.lf_definitions.specs.Signatures.{name_at};
 ghost use Rattle.small_programs.specs.Names.{rule_names};
 ghost use Rattle.small_answers.specs.Chosen.{IsRuleNumber};
-ghost use Rattle.small_answers.specs.Texts.{name_at, script_text};
+ghost use Rattle.small_answers.specs.Texts.{script_text};
 
 use lf_terms::{Bytes, NoMemory};
 use small_programs::SmallProgram;

@@ -4,9 +4,10 @@ use Rattle.std.specs.Prelude.{◌↔◌, ◌≤◌}
 use Rattle.std.proofs.lemmas.List.{take_all}
 use Rattle.std.proofs.lemmas.List.Elements.{All-nil, All-cons, All-head, All-tail}
 use Rattle.lf_definitions.specs.Syntax.{LfType, family, pis, Spine}
+use Rattle.lf_definitions.proofs.Failures.{conclusion-pis}
 use Rattle.lf_terms.specs.declared.ty.Ty.{Ty}
 use Rattle.lf_terms.specs.Types.{type_of, types_of}
-use Rattle.rule_sets.specs.Refusals.{IsAtomic, conclusion}
+use Rattle.rule_sets.specs.Refusals.{IsAtomic}
 use Rattle.small_programs.specs.declared.small.SmallConst.{SmallConst}
 use Rattle.small_forms.specs.Smallness.{HasAtomicBinders, binder_families, small_constant}
 
@@ -27,10 +28,6 @@ pub binders_atomic : (ts : List Ty) (bs : List LfType) (f : ℕ) (args : Spine) 
 binders_atomic ts bs f args e =
     let P : List LfType → Type 0 = λ cs. HasAtomicBinders (pis cs (family f args)) ↔ All (λ t. IsAtomic (type_of t)) ts in
     subst P e (atomic_in ts f args)
-
-pub conclusion-pis : (bs : List LfType) (f : ℕ) (args : Spine) → conclusion (pis bs (family f args)) ≡ f
-conclusion-pis [] f args = refl
-conclusion-pis (b ∷ bs) f args = conclusion-pis bs f args
 
 families_in : (ts : List Ty) (f : ℕ) (args : Spine) → binder_families (pis (types_of ts) (family f args)) ≡ map (λ t. t.family) ts
 families_in [] f args = refl

@@ -6,6 +6,7 @@ use Rattle.std.proofs.lemmas.List.Elements.{All-nil, All-cons, All-head, All-tai
 use Rattle.lf_definitions.specs.Syntax.{LfType}
 use Rattle.lf_definitions.specs.Signatures.{LfSignature, family_entry, constant_entry, constant_names, constant_types}
 use Rattle.lf_definitions.specs.Typing.{type_at}
+use Rattle.lf_definitions.proofs.Failures.{conclusion-pis}
 use Rattle.lf_terms.specs.Types.{type_of}
 use Rattle.rule_sets.specs.Refusals.{IsAtomic}
 use Rattle.rule_sets.specs.declared.rule.Rule.{Rule}
@@ -17,7 +18,6 @@ use Rattle.small_programs.specs.declared.small.SmallRule.{SmallRule}
 use Rattle.small_programs.specs.declared.small.SmallTheorem.{SmallTheorem}
 use Rattle.small_forms.specs.Smallness.{small_constant, small_constants, small_rule, small_theorem}
 use Rattle.small_forms.proofs.Places.{type_at-slice_get, read_at, read_after_two, take_more_at}
-use Rattle.small_forms.proofs.Binders.{conclusion-pis}
 
 pub length-small_constants : (sig : LfSignature) → length (small_constants sig) ≡ length (constant_types sig)
 length-small_constants [] = refl

@@ -4,7 +4,7 @@ use Rattle.std.specs.Prelude.{slice_get}
 use Rattle.std.specs.List.{AllByRecursion}
 use Rattle.std.proofs.lemmas.Option.{slice_get_within, slice_get-get_or}
 use Rattle.std.proofs.lemmas.List.Elements.{All-nil, All-cons, All-map, All-weaker, recursion_from_All}
-use Rattle.lf_definitions.specs.Syntax.{LfType, LfKind}
+use Rattle.lf_definitions.specs.Syntax.{LfType, LfKind, conclusion}
 use Rattle.lf_definitions.specs.Typing.{Typing, Kinds, Formed, formed_pi, formed_family}
 use Rattle.lf_definitions.specs.Signatures.{LfSignature, family_entry, constant_entry, family_names, family_kinds, constant_types, kinds_in, typing_in, FormedEntry, FormedSignature}
 use Rattle.lf_definitions.proofs.Growth.{AllFormed}
@@ -12,7 +12,7 @@ use Rattle.rule_sets.specs.declared.rule.Builder.{Builder}
 use Rattle.rule_sets.specs.declared.rule.Builder.TheVariants.{Apply}
 use Rattle.rule_sets.specs.declared.rule.Rule.{Rule}
 use Rattle.rule_sets.specs.Books.{Book}
-use Rattle.rule_sets.specs.Refusals.{conclusion, HasNoSubject, IsOver}
+use Rattle.rule_sets.specs.Refusals.{HasNoSubject, IsOver}
 use Rattle.file_elab.specs.Theorems.{LfTheorem}
 use Rattle.file_elab.specs.Programs.{LfProgram}
 use Rattle.small_programs.specs.declared.small.SmallConst.{SmallConst}

@@ -1,12 +1,12 @@
 -- Which programs are small, and what a small one declares.
 use Rattle.std.specs.Prelude.{◌≡◌, ℕ, List, [], ◌∷◌, length, map, drop, All, Option, Some, None}
-use Rattle.lf_definitions.specs.Syntax.{LfType, pi, family, LfKind}
+use Rattle.lf_definitions.specs.Syntax.{LfType, pi, family, LfKind, conclusion}
 use Rattle.lf_definitions.specs.Signatures.{LfSignature, family_entry, constant_entry, family_kinds, constant_types, family_names}
 use Rattle.rule_sets.specs.declared.rule.Phase.{Phase}
 use Rattle.rule_sets.specs.declared.rule.Phase.TheVariants.{Unsafe}
 use Rattle.rule_sets.specs.declared.rule.Builder.TheVariants.{Apply}
 use Rattle.rule_sets.specs.declared.rule.Rule.{Rule}
-use Rattle.rule_sets.specs.Refusals.{IsAtomic, conclusion}
+use Rattle.rule_sets.specs.Refusals.{IsAtomic}
 use Rattle.file_elab.specs.Theorems.{LfTheorem}
 use Rattle.file_elab.specs.Programs.{LfProgram}
 use Rattle.small_programs.specs.declared.small.SmallConst.{SmallConst}

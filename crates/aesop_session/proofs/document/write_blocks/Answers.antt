@@ -1,6 +1,7 @@
 use Rattle.std.proofs.Common.{subst, arith}
+use Rattle.lf_definitions.proofs.Lists.{take_next}
 use Rattle.aesop_session.specs.Documents.{WritesBlocks}
-use Rattle.aesop_session.proofs.Completion.{WritesBlocks-nothing, WritesBlocks-push, WritesBlocksFront-at, parts_at, take_next}
+use Rattle.aesop_session.proofs.Completion.{WritesBlocks-nothing, WritesBlocks-push, WritesBlocksFront-at, parts_at}
 use Rattle.aesop_session.proofs.document.write_blocks.Goals as goal
 
 pub loop-theorem-init : goal.loop-theorem-init

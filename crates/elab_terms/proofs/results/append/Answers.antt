@@ -1,10 +1,11 @@
 use Rattle.std.proofs.Common.{sym}
 use Rattle.lf_terms.specs.Terms.{spine_of}
-use Rattle.elab_terms.proofs.Copies.{term_copied, joined-none}
+use Rattle.lf_terms.proofs.Expansions.{joined-no_args}
+use Rattle.elab_terms.proofs.Copies.{term_copied}
 use Rattle.elab_terms.proofs.results.append.Goals as goal
 
 pub loop-term-init : goal.loop-term-init
-loop-term-init c = sym (joined-none (spine_of c.args.terms.now.items))
+loop-term-init c = sym (joined-no_args (spine_of c.args.terms.now.items))
 
 pub loop-term-preserved : goal.loop-term-preserved
 loop-term-preserved c =

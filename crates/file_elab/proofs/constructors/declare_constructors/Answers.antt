@@ -10,14 +10,16 @@ use Rattle.elab_terms.proofs.Reading.{IsRefusal-map}
 use Rattle.file_elab.specs.Constructors.{RefusesList}
 use Rattle.file_elab.specs.Programming.{RefusesInBook}
 use Rattle.file_elab.specs.Programs.{AreNumbers}
-use Rattle.file_elab.proofs.ConstructorLists.{family_within, list_declared, list_refused}
+use Rattle.file_elab.proofs.ConstructorLists.{family_within, refusal_of, list_declared, list_refused}
 use Rattle.file_elab.proofs.constructors.declare_constructors.Goals as goal
 
 pub list_constructors-requires-clause-within : goal.list_constructors-requires-clause-within
 list_constructors-requires-clause-within c = family_within c.args.sig.now (text_at (text_in c.args.source.now) c.args.name) c.in-Ok.family c.in-Ok.ensures.family
 
 pub returns-in-Err-clause-refused : goal.returns-in-Err-clause-refused
-returns-in-Err-clause-refused c = c.in-Err.ensures.refused c.args.spans.now
+returns-in-Err-clause-refused c =
+    let a = c.args in
+    refusal_of (RefusesInBook (text_in a.source.now) a.sig.now a.book.now (declarations.Ctors a.name a.spans.now)) c.in-Err.fault (c.in-Err.ensures.refused a.spans.now)
 
 pub returns-in-Err-read_constructors-clause-refused : goal.returns-in-Err-read_constructors-clause-refused
 returns-in-Err-read_constructors-clause-refused c =

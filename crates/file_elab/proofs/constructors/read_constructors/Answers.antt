@@ -1,13 +1,13 @@
 use Rattle.std.proofs.Common.{rules, ℕ, List, [], ◌+◌, take, sym, ap, ◌∙◌, subst}
 use Rattle.lf_definitions.specs.Signatures.{constant_names}
+use Rattle.lf_definitions.proofs.Failures.{conclusion-pis}
 use Rattle.lf_terms.specs.Places.{place_of}
 use Rattle.rule_sets.specs.Refusals.{AreConstructors, HasFamily}
-use Rattle.rule_sets.proofs.Types.{conclusion-pis}
-use Rattle.rule_sets.proofs.Constructors.{has_family, family_had}
+use Rattle.rule_sets.proofs.Constructors.{has_family, family_had, was_seen, was_unseen}
 use Rattle.elab_terms.specs.Sources.{text_in}
 use Rattle.file_elab.specs.Programs.{AreNumbers, no_number}
 use Rattle.file_elab.specs.Constructors.{next_unknown, next_again, next_other}
-use Rattle.file_elab.proofs.ConstructorLists.{no_constructors, constant_within, was_seen, was_unseen, passed_before, not_passed_before, constructors_more, passed_next, numbers_next, refused_next, numbers_all}
+use Rattle.file_elab.proofs.ConstructorLists.{no_constructors, constant_within, passed_before, not_passed_before, constructors_more, passed_next, numbers_next, refused_next, numbers_all}
 use Rattle.file_elab.proofs.constructors.read_constructors.Goals as goal
 
 pub loop-i-init : goal.loop-i-init
@@ -25,20 +25,20 @@ returns-in_default-clause-refused c =
     let a = c.args in
     let names = constant_names a.sig.now in
     refused_next (text_in a.source.now) a.sig.now a.family a.spans.now c.loop-i.i _ c.loop-i.constants c.loop-i-test.true c.loop-i.invariant.numbers _ c.loop-i.invariant.constructors
-    (next_unknown (ap (place_of names) (sym c.text.ensures) ∙ sym c.in_ok-constant.ensures ∙ c.in_default.is))
+    (next_unknown (ap (place_of names) (sym c.text.ensures) ∙ sym c.constant_named.ensures ∙ c.in_default.is))
 
 pub returns-then-not-is_new-clause-refused : goal.returns-then-not-is_new-clause-refused
 returns-then-not-is_new-clause-refused c =
     let a = c.args in
     let names = constant_names a.sig.now in
     refused_next (text_in a.source.now) a.sig.now a.family a.spans.now c.loop-i.i _ c.loop-i.constants c.loop-i-test.true c.loop-i.invariant.numbers _ c.loop-i.invariant.constructors
-    (next_again c.in-Some.constant (ap (place_of names) (sym c.text.ensures) ∙ sym c.in_ok-constant.ensures ∙ c.in-Some.is)
+    (next_again c.in-Some.constant (ap (place_of names) (sym c.text.ensures) ∙ sym c.constant_named.ensures ∙ c.in-Some.is)
     (passed_before a.sig.now a.family c.loop-i.constants c.loop-i.passed.keys c.in-Some.constant c.loop-i.invariant.passed_are c.loop-i.invariant.constructors
     (was_seen _ _ c.in_ok-is_new.ensures.added c.if-not-is_new.true)))
 
 pub type_of-requires : goal.type_of-requires
 type_of-requires c =
-    constant_within c.args.sig.now c.text.result.now c.in-Some.constant (sym c.in_ok-constant.ensures ∙ c.in-Some.is)
+    constant_within c.args.sig.now c.text.result.now c.in-Some.constant (sym c.constant_named.ensures ∙ c.in-Some.is)
 
 pub returns-then-type_of-family-clause-refused : goal.returns-then-type_of-family-clause-refused
 returns-then-type_of-family-clause-refused c =
@@ -46,7 +46,7 @@ returns-then-type_of-family-clause-refused c =
     let names = constant_names a.sig.now in
     let ty = c.type_of.result.now in
     refused_next (text_in a.source.now) a.sig.now a.family a.spans.now c.loop-i.i _ c.loop-i.constants c.loop-i-test.true c.loop-i.invariant.numbers _ c.loop-i.invariant.constructors
-    (next_other c.in-Some.constant (ap (place_of names) (sym c.text.ensures) ∙ sym c.in_ok-constant.ensures ∙ c.in-Some.is)
+    (next_other c.in-Some.constant (ap (place_of names) (sym c.text.ensures) ∙ sym c.constant_named.ensures ∙ c.in-Some.is)
     (not_passed_before a.sig.now a.family c.loop-i.constants c.loop-i.passed.keys c.in-Some.constant c.loop-i.invariant.passed_are c.loop-i.invariant.constructors
     (was_unseen _ _ c.in_ok-is_new.ensures.added c.if-not-is_new.false))
     (λ has. c.if-type_of-family.true (sym (conclusion-pis ty.binders ty.family ty.args) ∙ family_had _ _ _ _ c.type_of.ensures has)))
@@ -65,7 +65,7 @@ loop-i-preserved c =
     record {
       numbers = subst P added
           (numbers_next (text_in a.source.now) a.sig.now a.family a.spans.now c.loop-i.i _ before c.loop-i-test.true c.loop-i.invariant.numbers c.in-Some.constant
-          (ap (place_of names) (sym c.text.ensures) ∙ sym c.in_ok-constant.ensures ∙ c.in-Some.is));
+          (ap (place_of names) (sym c.text.ensures) ∙ sym c.constant_named.ensures ∙ c.in-Some.is));
       constructors = subst Q added
           (constructors_more a.sig.now a.family before c.loop-i.passed.keys c.in-Some.constant c.loop-i.invariant.passed_are c.loop-i.invariant.constructors missing has);
       passed_are =

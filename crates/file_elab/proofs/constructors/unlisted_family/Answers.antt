@@ -7,9 +7,9 @@ use Rattle.file_elab.proofs.constructors.unlisted_family.Goals as goal
 
 pub returns-in_default-clause-refused : goal.returns-in_default-clause-refused
 returns-in_default-clause-refused c = λ spans theorems.
-    refuses_listed_family c.args.name spans (ap (place_of (family_names c.args.sig.now)) (sym c.text.ensures) ∙ sym c.in_ok-family.ensures ∙ c.in_default.is)
+    refuses_listed_family c.args.name spans (ap (place_of (family_names c.args.sig.now)) (sym c.text.ensures) ∙ sym c.family_named.ensures ∙ c.in_default.is)
 
 pub returns-then-is_some-clause-refused : goal.returns-then-is_some-clause-refused
 returns-then-is_some-clause-refused c = λ spans theorems.
-    refuses_listed c.args.name spans c.in-Some.family (ap (place_of (family_names c.args.sig.now)) (sym c.text.ensures) ∙ sym c.in_ok-family.ensures ∙ c.in-Some.is)
+    refuses_listed c.args.name spans c.in-Some.family (ap (place_of (family_names c.args.sig.now)) (sym c.text.ensures) ∙ sym c.family_named.ensures ∙ c.in-Some.is)
     (not_none _ _ c.ctors.ensures (sym c.if-is_some.ensures))

@@ -1,4 +1,5 @@
 use Rattle.std.proofs.Common.{sym, subst, take_all}
+use Rattle.lf_definitions.proofs.Lists.{take_next}
 use Rattle.rule_sets.specs.Refusals.{IsOver}
 use Rattle.rule_sets.proofs.Over.{first_is_over}
 use Rattle.elab_terms.specs.Sources.{text_in}
@@ -7,7 +8,6 @@ use Rattle.file_elab.specs.ProgramViews.{program_of}
 use Rattle.file_elab.specs.Programs.{DeclaresAll, first_program, Refuses, IsRefused}
 use Rattle.file_elab.specs.Theorems.{AreFormed}
 use Rattle.file_elab.proofs.Growing.{nothing_declared, none_formed, declares_last, refused_at}
-use Rattle.file_elab.proofs.Passing.{passed_next}
 use Rattle.file_elab.proofs.elaborating.declared.Goals as goal
 
 pub loop-declaration-init : goal.loop-declaration-init
@@ -31,7 +31,7 @@ loop-declaration-preserved c =
     let step = c.in_default.ensures in
     record {
       made = subst (λ front. DeclaresAll (text_in c.args.source.now) first_program front (program_of c.declare.new.program))
-          (passed_next c.args.declarations.now c.loop-declaration.declaration-index c.declaration-item.result c.loop-declaration-test.true c.declaration-item.is)
+          (take_next c.args.declarations.now c.loop-declaration.declaration-index c.declaration-item.result c.loop-declaration-test.true c.declaration-item.is)
           (declares_last c.loop-declaration.invariant.made c.declaration-item.result (program_of c.declare.new.program) step.declared);
       formed = step.formed c.loop-declaration.invariant.formed;
       over = step.over c.loop-declaration.invariant.over;

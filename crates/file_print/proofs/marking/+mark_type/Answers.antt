@@ -1,11 +1,12 @@
 use Rattle.std.proofs.Common.{◌≡◌, ◌+◌, arith, sym, ap, ◌∙◌, subst, List, Bool, ℕ, length, take, ◌∷◌, ◌++◌, []}
 use Rattle.lf_definitions.specs.Syntax.{types_size}
 use Rattle.lf_terms.specs.TypeSizes.{binders_size}
+use Rattle.lf_terms.proofs.Mentions.{written_back}
 use Rattle.lf_terms.proofs.TypeLists.{item_size}
 use Rattle.file_print.specs.Marks.{ArePlaces, with_marks}
 use Rattle.file_print.specs.Mentions.{mentions_in_spine}
 use Rattle.file_print.proofs.PlacedMarks.{length-with_marks}
-use Rattle.file_print.proofs.MarkSteps.{pushed_marks, written_back, none_so_far, binder_step, binders_end}
+use Rattle.file_print.proofs.MarkSteps.{pushed_marks, none_so_far, binder_step, binders_end}
 use Rattle.file_print.proofs.marking.+mark_type.Goals as goal
 
 pub loop-binder-init : goal.loop-binder-init

@@ -2,7 +2,7 @@ use Rattle.std.proofs.Common.{[], ◌∙◌, subst}
 use Rattle.lf_definitions.specs.Signatures.{kinds_in, typing_in}
 use Rattle.lf_terms.specs.Types.{type_of}
 use Rattle.lf_kernel.specs.Checks.{ChecksType}
-use Rattle.lf_kernel.proofs.Counts.{length-constant_names}
+use Rattle.lf_definitions.proofs.Counts.{length-constant_names}
 use Rattle.lf_kernel.proofs.adding.add_const.Goals as goal
 
 pub returns-in-Ok : goal.returns-in-Ok

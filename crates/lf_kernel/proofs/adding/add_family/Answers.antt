@@ -1,7 +1,7 @@
 use Rattle.std.proofs.Common.{[], ◌∙◌, subst}
 use Rattle.lf_definitions.specs.Signatures.{kinds_in, typing_in}
 use Rattle.lf_kernel.specs.Checks.{ChecksKind}
-use Rattle.lf_kernel.proofs.Counts.{length-family_names}
+use Rattle.lf_definitions.proofs.Counts.{length-family_names}
 use Rattle.lf_kernel.proofs.adding.add_family.Goals as goal
 
 pub returns-in-Ok : goal.returns-in-Ok

@@ -1,8 +1,9 @@
 use Rattle.std.proofs.Common.{arith, sym, ap, ◌∙◌}
 use Rattle.lf_definitions.specs.Syntax.{arrows, base, types_size}
+use Rattle.lf_definitions.proofs.Typing.{shape_of-pis}
 use Rattle.lf_terms.specs.TypeSizes.{binders_size}
 use Rattle.lf_terms.proofs.TypeLists.{item_size}
-use Rattle.lf_terms.proofs.ShapeLists.{shape_more, shape_of-pis}
+use Rattle.lf_terms.proofs.ShapeLists.{shape_more}
 use Rattle.lf_terms.proofs.shape_of.+shape_of.Goals as goal
 
 pub shape_of-shapes_of-requires : goal.shape_of-shapes_of-requires

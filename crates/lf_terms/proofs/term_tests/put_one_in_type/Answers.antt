@@ -2,7 +2,6 @@ use Rattle.std.proofs.Common.{◌≡◌, ℕ, zero, suc, ◌++◌, List, [], ◌
 use Rattle.lf_definitions.specs.Syntax.{LfHead, constant, LfTerm, lam, at, Spine, no_args, arg, SimpleType, base, arrow, LfType, pi, family}
 use Rattle.lf_definitions.specs.Shaping.{Scope, under, under_all, Shaped, shaped_lam, shaped_at, ShapedSpine, shaped_none, ShapedType, shaped_pi, shaped_family, globals}
 use Rattle.lf_terms.specs.Putting.{Puts, TypeShaped}
-use Rattle.lf_terms.specs.Shapes.{simple_type_of}
 use Rattle.lf_terms.specs.Terms.{term_of, spine_of}
 use Rattle.lf_terms.specs.Types.{type_of}
 use Rattle.lf_terms.proofs.Putting.{one_shaped}

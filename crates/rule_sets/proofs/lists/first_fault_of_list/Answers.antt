@@ -1,17 +1,10 @@
-use Rattle.std.proofs.Common.{◌≡◌, Bool, true, false, not, arith, sym, ◌∙◌, subst, List, ℕ, length, ◌<◌, take_all, slice_index_or}
+use Rattle.std.proofs.Common.{true, false, arith, sym, ◌∙◌, subst, List, ℕ, length, ◌<◌, take_all, slice_index_or}
 use Rattle.lf_definitions.specs.Signatures.{constant_types}
+use Rattle.lf_definitions.proofs.Failures.{conclusion-pis}
+use Rattle.lf_definitions.proofs.Counts.{length-constant_names}
 use Rattle.rule_sets.specs.Refusals.{AreConstructors}
-use Rattle.rule_sets.proofs.Types.{conclusion-pis}
-use Rattle.rule_sets.proofs.Constructors.{length-constant_names, has_family, family_had, repeated_here, other_here, good_more, passed_more}
+use Rattle.rule_sets.proofs.Constructors.{has_family, family_had, repeated_here, other_here, good_more, passed_more, was_seen, was_unseen}
 use Rattle.rule_sets.proofs.lists.first_fault_of_list.Goals as goal
-
-was_seen : (b new : Bool) → new ≡ not b → new ≡ false → b ≡ true
-was_seen true new is old = cc
-was_seen false new is old = absurd cc
-
-was_unseen : (b new : Bool) → new ≡ not b → new ≡ true → b ≡ false
-was_unseen true new is old = absurd cc
-was_unseen false new is old = cc
 
 pub returns-then-not-is_new : goal.returns-then-not-is_new
 returns-then-not-is_new c =

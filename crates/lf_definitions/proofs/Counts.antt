@@ -1,4 +1,4 @@
--- Entries that are added to a signature.
+-- A signature has as many names as kinds and as types.
 use Rattle.std.proofs.Common.{◌≡◌, suc, [], ◌∷◌, length, refl, ap}
 use Rattle.lf_definitions.specs.Signatures.{family_entry, constant_entry, LfSignature, family_names, family_kinds, constant_names, constant_types}
 
