@@ -8,6 +8,7 @@ use Rattle.lf_definitions.specs.Substitution.{Replacement}
 use Rattle.lf_definitions.specs.Typing.{Typing, Kinds, Typed, typed_lam, typed_at, TypedSpine, typed_none, typed_arg, Formed, formed_pi, formed_family, with_variable, type_at}
 use Rattle.lf_definitions.specs.Signatures.{LfSignature, family_entry, constant_entry, constant_names, constant_types, family_names, kinds_in, typing_in, FormedEntry, FormedSignature}
 use Rattle.lf_definitions.proofs.Growth.{AllFormed}
+use Rattle.lf_definitions.proofs.Options.{None-Some, Some-Some}
 use Rattle.file_print.specs.Mentions.{mentions_in_term, mentions_in_spine, mentions, is_variable}
 use Rattle.file_print.specs.Printable.{IsPrintableHead, IsPrintable, ArePrintable, IsPrintableType}
 
@@ -48,11 +49,8 @@ mentioned_formed {kinds} {Γ} n (formed_pi {a = a} {b = b} first second) e =
     ⊎_elim (λ here. mentioned_formed n first here) (λ there. outside Γ a n (mentioned_formed (suc n) second there)) (either (mentions n a) (mentions (suc n) b) e)
 mentioned_formed n (formed_family domains is spine) e = mentioned_args n spine e
 
-none_is_some : {a : LfType} → ◌≡◌ {A = Option LfType} None (Some a) → ⊥
-none_is_some e = cc
-
 pub closed_mentions : (sig : LfSignature) (a : LfType) → Formed (kinds_in sig) (typing_in sig [] []) a → (n : ℕ) → mentions n a ≡ true → ⊥
-closed_mentions sig a formed n e = none_is_some (mentioned_formed n formed e).1
+closed_mentions sig a formed n e = None-Some refl (mentioned_formed n formed e).1
 
 -- What is known of the heads at a place.
 pub record IsScoped (sig : LfSignature) (depth : ℕ) (Γ : Typing) : Type 0 where
@@ -106,17 +104,14 @@ printable_type sig names known (formed_family {f = f} domains is spine) = (names
 -- A well-formed type with no variables outside can be printed.
 pub closed_printable : (sig : LfSignature) (a : LfType) → Formed (kinds_in sig) (typing_in sig [] []) a → IsPrintableType sig 0 a
 closed_printable sig a formed =
-    printable_type sig (family_within sig) (record { variables = λ n b e. absurd (none_is_some e); constants = λ c. refl; metavariables = λ g. refl }) formed
+    printable_type sig (family_within sig) (record { variables = λ n b e. absurd (None-Some refl e); constants = λ c. refl; metavariables = λ g. refl }) formed
 
 -- The types of constants are well formed.
 constant_in : (whole sig : LfSignature) → All (FormedEntry whole) sig → (c : ℕ) (a : LfType) → type_at (constant_types sig) c ≡ Some a → Formed (kinds_in whole) (typing_in whole [] []) a
 constant_in whole [] all c a e = absurd cc
 constant_in whole (family_entry name kind ∷ sig) all c a e =
     constant_in whole sig (λ k entry within. all (suc k) entry (omega (arith, within))) c a e
-constant_in whole (constant_entry name type ∷ sig) all zero a e = subst (Formed (kinds_in whole) (typing_in whole [] [])) (inj e) (all 0 (constant_entry name type) (omega arith))
-  where
-    inj : ◌≡◌ {A = Option LfType} (Some type) (Some a) → type ≡ a
-    inj e = cc
+constant_in whole (constant_entry name type ∷ sig) all zero a e = subst (Formed (kinds_in whole) (typing_in whole [] [])) (Some-Some e) (all 0 (constant_entry name type) (omega arith))
 constant_in whole (constant_entry name type ∷ sig) all (suc c) a e =
     constant_in whole sig (λ k entry within. all (suc k) entry (omega (arith, within))) c a e
 
