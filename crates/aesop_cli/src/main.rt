@@ -5,7 +5,7 @@
 ghost use Rattle.std.specs.Prelude.{⊤};
 
 use aesop_session::{Status, run_still};
-use lf_terms::{Name, NoMemory, Words};
+use basics::{Name, NoMemory, Words};
 use run_io::{StdSink, StdSource};
 use std::process::ExitCode;
 use std::thread::{Builder, Promise};

@@ -5,7 +5,7 @@ ghost use Rattle.small_search.specs.Closings.{closing_of, IsTable};
 ghost use Rattle.small_answers.specs.Lengths.{IsProofs};
 ghost use Rattle.aesop_session.specs.Documents.{stuck_text, AddsBlock, AddsProvedBlock};
 
-use lf_terms::{Bytes, Ids, NoMemory};
+use basics::{Bytes, Ids, NoMemory};
 use small_answers::{Proofs, append_numbers, append_script, append_term};
 use small_programs::{SmallProgram, SmallTheorem};
 use small_search::Table;

@@ -3,7 +3,7 @@
 ghost use Rattle.std.specs.Prelude.{◌↔◌, IsTrue};
 ghost use Rattle.aesop_session.specs.Commands.{IsProve};
 
-use lf_terms::Words;
+use basics::Words;
 
 /// Whether the words are `prove`, `--workers` and `0`.
 pub(crate) fn is_prove(words: &Words) -> bool

@@ -9,7 +9,7 @@ ghost use Rattle.aesop_session.specs.Documents.{WritesBlock, WritesBlockFront, W
 
 use crate::block::append_block;
 use crate::status::Status;
-use lf_terms::{Bytes, NoMemory};
+use basics::{Bytes, NoMemory};
 use run_io::{Sink, WriteEnd, write_piece};
 use small_answers::Proofs;
 use small_programs::{SmallProgram, SmallTheorem};

@@ -2,7 +2,7 @@
 
 use crate::run_still;
 use crate::tests::{lines_of, words_of};
-use lf_terms::{Bytes, Ids, NoMemory};
+use basics::{Bytes, Ids, NoMemory};
 use run_io::{MemorySink, MemorySource};
 use std::alloc::Global;
 use std::test::Fail;

@@ -3,7 +3,8 @@
 use crate::accepting::small_of;
 use crate::{SmallVerdict, prove_small, run_still};
 use lf_terms::same::same;
-use lf_terms::{Bytes, Head, Ids, Name, NoMemory, Term, Terms, Words};
+use basics::{Bytes, Ids, Name, NoMemory, Words};
+use lf_terms::{Head, Term, Terms};
 use run_io::{MemorySink, MemorySource, SureSink, SureSource};
 use std::alloc::Global;
 use std::test::Fail;

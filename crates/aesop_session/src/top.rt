@@ -14,7 +14,7 @@ use crate::document::{Stop, write_document, write_text};
 use crate::input::{NoProgram, read_program};
 use crate::refusal::{Refusal, line_of};
 use crate::status::Status;
-use lf_terms::Words;
+use basics::Words;
 use run_io::{Sink, Source};
 use small_answers::Proofs;
 use small_programs::SmallProgram;

@@ -7,7 +7,8 @@ ghost use Rattle.small_answers.specs.Lengths.{IsProofs};
 ghost use Rattle.aesop_session.specs.Verdicts.{IsVerdict, IsVerdictOf};
 
 use lf_terms::term::copy;
-use lf_terms::{Ids, NoMemory, Term};
+use basics::{Ids, NoMemory};
+use lf_terms::Term;
 use small_answers::{Proofs, append_numbers, terms_of};
 use small_programs::SmallProgram;
 use std::alloc::Global;

@@ -7,8 +7,8 @@ use Rattle.std.proofs.lemmas.List.{map-append, get_or_append_left, get_or_at, ge
 use Rattle.std.proofs.lemmas.Option.{slice_get_within}
 use Rattle.std.proofs.lemmas.Slice.Eq.{bytes_eq-Decides}
 use Rattle.lf_definitions.proofs.Lists.{slice_get-front}
-use Rattle.lf_terms.specs.Places.{place_of}
-use Rattle.lf_terms.proofs.NamePlaces.{place_found}
+use Rattle.basics.specs.Places.{place_of}
+use Rattle.basics.proofs.NamePlaces.{place_found}
 use Rattle.elab_terms.specs.Names.{Bound, variable_of}
 use Rattle.elab_terms.specs.Binding.{bound_from, name_of, bound_of, level_of, KeepsOuter, KeepsOuterIf, KeepOuter, IsIndexed, AddsName, name_occurred, name_is_new}
 use Rattle.elab_terms.specs.declared.binders.Named.{Named}

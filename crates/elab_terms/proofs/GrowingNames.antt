@@ -6,8 +6,8 @@ use Rattle.std.specs.Str.{bytes_eq}
 use Rattle.std.proofs.lemmas.Bool.{cases_Bool, false≢true}
 use Rattle.std.proofs.lemmas.Iterator.Adapters.{position_from-zero}
 use Rattle.std.proofs.lemmas.Slice.Eq.{bytes_eq-Decides}
-use Rattle.lf_terms.specs.Places.{place_of}
-use Rattle.lf_terms.proofs.NamePlaces.{place_found}
+use Rattle.basics.specs.Places.{place_of}
+use Rattle.basics.proofs.NamePlaces.{place_found}
 
 kept : (b : Bool) (i p : ℕ) (old new : Option ℕ) → (old ≡ Some p → new ≡ Some p) → cond b (Some i) old ≡ Some p → cond b (Some i) new ≡ Some p
 kept true i p old new stays e = e

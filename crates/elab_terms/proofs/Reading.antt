@@ -19,7 +19,7 @@ use Rattle.lf_definitions.proofs.Counts.{length-constant_names}
 use Rattle.lf_definitions.proofs.Typing.{shaped_argument, shaped_result}
 use Rattle.lf_terms.specs.declared.ty.Ty.{Ty}
 use Rattle.lf_terms.specs.Types.{type_of, types_of}
-use Rattle.lf_terms.specs.Places.{place_of}
+use Rattle.basics.specs.Places.{place_of}
 use Rattle.lf_kernel.specs.declared.head_type.HeadType.{HeadType}
 use Rattle.lf_kernel.specs.declared.scope.Scope as places
 use Rattle.lf_kernel.proofs.Heads.{typing_under-constant}

@@ -9,10 +9,10 @@ use Rattle.std.proofs.lemmas.Option.{slice_get_within, get_or_from_slice_get}
 use Rattle.std.proofs.lemmas.Slice.Eq.{bytes_eq-Decides}
 use Rattle.lf_definitions.specs.Signatures.{family_entry, constant_entry, LfSignature, names_of, family_names, constant_names, FormedSignature, IsNewName}
 use Rattle.lf_definitions.proofs.Growth.{names_differ}
-use Rattle.lf_terms.specs.Places.{place_of}
+use Rattle.basics.specs.Places.{place_of}
 use Rattle.lf_terms.specs.Finding.{Finds}
 use Rattle.lf_terms.specs.declared.found.Found.TheVariants.{Family, Const}
-use Rattle.lf_terms.proofs.NamePlaces.{place_found, place_absent, place_new}
+use Rattle.basics.proofs.NamePlaces.{place_found, place_absent, place_new}
 
 abbrev Name : Type 0
 Name = List ℕ

@@ -1,7 +1,7 @@
 -- Binders as the code has them, the oldest first.
 use Rattle.std.specs.Prelude.{◌≡◌, ℕ, ◌<◌, ◌^◌, List, [], ◌∷◌, ◌++◌, Option, Some, None, length, map, get_or, slice_get, if◌then◌else◌}
 use Rattle.std.specs.Str.{bytes_eq}
-use Rattle.lf_terms.specs.Places.{place_of}
+use Rattle.basics.specs.Places.{place_of}
 use Rattle.elab_terms.specs.Names.{Bound}
 use Rattle.elab_terms.specs.declared.binders.Named.{Named}
 

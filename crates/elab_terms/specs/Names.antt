@@ -3,7 +3,7 @@ use Rattle.std.specs.Prelude.{ℕ, suc, List, [], ◌∷◌, Option, Some, None,
 use Rattle.std.specs.Str.{bytes_eq}
 use Rattle.lex_text.specs.declared.token.Token.{Token}
 use Rattle.lex_text.specs.Tokens.{text_of}
-use Rattle.lf_terms.specs.Places.{place_of}
+use Rattle.basics.specs.Places.{place_of}
 use Rattle.lf_definitions.specs.Syntax.{LfHead, bound, constant}
 use Rattle.lf_definitions.specs.Signatures.{LfSignature, constant_names, family_names}
 use Rattle.file_trees.specs.declared.span.Span.{Span}

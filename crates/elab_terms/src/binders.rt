@@ -1,10 +1,10 @@
 //! The names of the binders around a place.
 
 ghost use Rattle.std.specs.Prelude.{◌≡◌, Some, length, IfOk, OnOk, OnErr};
-ghost use Rattle.lf_terms.specs.Places.{place_of};
+ghost use Rattle.basics.specs.Places.{place_of};
 ghost use Rattle.elab_terms.specs.Binding.{AddsName};
 
-use lf_terms::{Names, NoMemory};
+use basics::{Names, NoMemory};
 use std::alloc::Global;
 use std::marker::Model;
 

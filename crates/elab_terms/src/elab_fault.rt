@@ -1,6 +1,6 @@
 //! Why a file is refused.
 
-use lf_terms::NoMemory;
+use basics::NoMemory;
 use std::alloc::{AllocError, AllocFailed};
 
 /// The first thing that is wrong in a file, with its place in bytes.

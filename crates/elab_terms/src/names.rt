@@ -2,7 +2,7 @@
 
 ghost use Rattle.std.specs.Prelude.{◌≡◌};
 ghost use Rattle.lf_definitions.specs.Signatures.{constant_names, family_names};
-ghost use Rattle.lf_terms.specs.Places.{place_of};
+ghost use Rattle.basics.specs.Places.{place_of};
 
 use lf_terms::{Found, Signature};
 

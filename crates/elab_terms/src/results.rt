@@ -17,7 +17,8 @@ use lf_terms::eta::{abstracted, own_variables, raised};
 use lf_terms::shape_of::shapes_of;
 use lf_terms::subst::{put_all, put_type};
 use lf_terms::term::copy;
-use lf_terms::{Head, NoMemory, Shape, Term, Terms, Ty, Tys};
+use basics::NoMemory;
+use lf_terms::{Head, Shape, Term, Terms, Ty, Tys};
 use std::alloc::Global;
 
 /// What is left of a type after so many of its binders.

@@ -10,7 +10,8 @@ use lex_text::Tokens;
 use lex_text::tokens::tokens;
 use lf_kernel::adding::add_family;
 use lf_terms::same::{same_ty, same_tys};
-use lf_terms::{Head, Kind, Name, NoMemory, Signature, Term, Terms, Ty, Tys};
+use basics::{Name, NoMemory};
+use lf_terms::{Head, Kind, Signature, Term, Terms, Ty, Tys};
 use std::alloc::{AllocError, Global};
 use std::test::Fail;
 

@@ -10,8 +10,8 @@ use Rattle.std.proofs.lemmas.Option.{slice_get-get_or, slice_get_within}
 use Rattle.indexmap.specs.IndexSet.{insert_key}
 use Rattle.lf_definitions.specs.Signatures.{LfSignature, family_names, family_kinds, constant_names, constant_types}
 use Rattle.lf_definitions.proofs.Counts.{length-family_names}
-use Rattle.lf_terms.specs.Places.{place_of}
-use Rattle.lf_terms.proofs.NamePlaces.{place_found}
+use Rattle.basics.specs.Places.{place_of}
+use Rattle.basics.proofs.NamePlaces.{place_found}
 use Rattle.file_trees.specs.declared.span.Span.{Span}
 use Rattle.file_trees.specs.declared.decl_tree.DeclTree.TheVariants.{Ctors}
 use Rattle.rule_sets.specs.Books.{Book, list_of}

@@ -1,6 +1,6 @@
 -- A declaration that makes a program is refused for no fault, and one that is refused is so for one fault.
 use Rattle.std.proofs.Common.{◌≡◌, ℕ, Option, Some, None, ◌⊎◌, inl, inr, List, [], ◌∷◌, ◌++◌, length, take, Contains, slice_get, refl, sym, ap, ap₂, ◌∙◌, subst, subst₂, arith}
-use Rattle.lf_terms.specs.Places.{place_of}
+use Rattle.basics.specs.Places.{place_of}
 use Rattle.lf_definitions.specs.Signatures.{LfSignature, names_of, family_names, constant_names, typing_in}
 use Rattle.lf_definitions.proofs.Options.{None-Some, Some_inj}
 use Rattle.file_trees.specs.declared.span.Span.{Span}

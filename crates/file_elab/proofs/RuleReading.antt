@@ -5,8 +5,8 @@ use Rattle.std.specs.Prelude.{Contains, ℤ}
 use Rattle.std.proofs.lemmas.Option.{slice_get_within}
 use Rattle.lf_definitions.specs.Signatures.{LfSignature, constant_names, constant_types, family_names}
 use Rattle.lf_definitions.proofs.Counts.{length-constant_names}
-use Rattle.lf_terms.specs.Places.{place_of}
-use Rattle.lf_terms.proofs.NamePlaces.{place_found}
+use Rattle.basics.specs.Places.{place_of}
+use Rattle.basics.proofs.NamePlaces.{place_found}
 use Rattle.file_trees.specs.declared.span.Span.{Span}
 use Rattle.file_trees.specs.declared.decl_tree.PhaseWord.{PhaseWord}
 use Rattle.file_trees.specs.declared.decl_tree.BuildWord.{BuildWord}
@@ -19,7 +19,7 @@ use Rattle.rule_sets.specs.declared.rule.RuleFault.TheVariants.{BadMajor, Premis
 use Rattle.rule_sets.specs.Books.{Book, list_of}
 use Rattle.rule_sets.specs.Refusals.{IsNoPercent, HasNoSubject, IsBadMajor, HasBadPremises, IsRuleOver, Adds, IsFirstFault, bad_major, premises}
 use Rattle.rule_sets.specs.Tests.{IsChosen, IsFree}
-use Rattle.rule_sets.proofs.NamePlaces.{not_contained}
+use Rattle.basics.proofs.Membership.{not_contained}
 use Rattle.elab_terms.specs.Knowing.{IsRefusal}
 use Rattle.elab_terms.specs.Names.{Text, text_at}
 use Rattle.elab_terms.specs.declared.elab_fault.ElabFault.{ElabFault}

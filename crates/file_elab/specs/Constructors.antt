@@ -1,6 +1,6 @@
 -- Reading the constants of a list of constructors, up to the first that is wrong.
 use Rattle.std.specs.Prelude.{◌≡◌, ℕ, List, ◌∷◌, ◌++◌, Some, None, Contains}
-use Rattle.lf_terms.specs.Places.{place_of}
+use Rattle.basics.specs.Places.{place_of}
 use Rattle.lf_definitions.specs.Signatures.{LfSignature, constant_names}
 use Rattle.file_trees.specs.declared.span.Span.{Span}
 use Rattle.rule_sets.specs.Refusals.{HasFamily, AreConstructors}

@@ -2,7 +2,7 @@
 use Rattle.std.specs.Prelude.{◌≡◌, ℕ, ◌<◌, ◌≤◌, List, [], ◌∷◌, ◌++◌, length, map, Option, Some, None, Contains}
 use Rattle.lex_text.specs.declared.token.Token.{Token}
 use Rattle.lex_text.specs.Tokens.{TokensOf}
-use Rattle.lf_terms.specs.Places.{place_of}
+use Rattle.basics.specs.Places.{place_of}
 use Rattle.lf_definitions.specs.Syntax.{LfType, LfKind}
 use Rattle.lf_definitions.specs.Signatures.{LfSignature, family_entry, constant_entry, names_of, family_names, constant_names, typing_in}
 use Rattle.file_syntax.specs.Files.{IsParsed}

@@ -1,6 +1,6 @@
 -- Reading a rule over a signature and a book: the rule, or the first thing that is wrong with its parts.
 use Rattle.std.specs.Prelude.{◌≡◌, ℕ, ℤ, pos, neg_ℤ, ◌≤ℤ◌, negsuc, ◌+◌, ◌*◌, ◌-◌, ◌≤◌, List, [], ◌∷◌, codes, Option, Some, None, fold, if◌then◌else◌, nat_eq}
-use Rattle.lf_terms.specs.Places.{place_of}
+use Rattle.basics.specs.Places.{place_of}
 use Rattle.lf_definitions.specs.Signatures.{LfSignature, constant_names, family_names}
 use Rattle.file_trees.specs.declared.span.Span.{Span}
 use Rattle.file_trees.specs.declared.decl_tree.PhaseWord.{PhaseWord}

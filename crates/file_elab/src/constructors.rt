@@ -3,7 +3,7 @@
 ghost use Rattle.std.specs.Prelude.{◌≡◌, ◌<◌, ◌++◌, [], ◌∷◌, List, length, Some, None, IfOk, IfErr, OnOk};
 ghost use Rattle.lex_text.specs.Tokens.{TokensOf};
 ghost use Rattle.lf_definitions.specs.Signatures.{family_kinds, family_names};
-ghost use Rattle.lf_terms.specs.Places.{place_of};
+ghost use Rattle.basics.specs.Places.{place_of};
 ghost use Rattle.rule_sets.specs.Books.{list_of};
 ghost use Rattle.rule_sets.specs.Refusals.{AreConstructors, IsOver};
 ghost use Rattle.elab_terms.specs.Knowing.{IsRefusal};
@@ -21,7 +21,8 @@ use elab_terms::names::{constant_named, family_named};
 use elab_terms::source::{Source, text};
 use file_trees::{Span, Spans};
 use indexmap::IndexSet;
-use lf_terms::{Ids, Signature};
+use basics::Ids;
+use lf_terms::Signature;
 use rule_sets::{CtorFault, RuleBook};
 use std::alloc::Global;
 

@@ -22,7 +22,8 @@ use elab_terms::source::Source;
 use file_trees::{DeclTree, FileTree};
 use lex_text::tokens::tokens;
 use lex_text::{LexFault, Tokens};
-use lf_terms::{NoMemory, Signature};
+use basics::NoMemory;
+use lf_terms::Signature;
 use rule_sets::RuleBook;
 use std::alloc::Global;
 

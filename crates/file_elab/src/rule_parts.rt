@@ -11,7 +11,8 @@ use crate::number::{natural, penalty};
 use elab_terms::names::{constant_named, family_named};
 use elab_terms::source::{Source, text};
 use file_trees::{BuildWord, PhaseWord, Span};
-use lf_terms::{Name, NoMemory, Signature};
+use basics::{Name, NoMemory};
+use lf_terms::Signature;
 use rule_sets::{Builder, Phase, RuleBook};
 use std::alloc::Global;
 

@@ -18,7 +18,8 @@ use crate::rule_parts::{read_builder, read_major, read_phase, read_set, read_sub
 use elab_terms::ElabFault;
 use elab_terms::source::{Source, text};
 use file_trees::{BuildWord, PhaseWord, Span};
-use lf_terms::{Name, Signature};
+use basics::Name;
+use lf_terms::Signature;
 use rule_sets::{Builder, Phase, Rule, RuleBook, RuleFault};
 use std::alloc::Global;
 

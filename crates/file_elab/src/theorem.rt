@@ -1,11 +1,12 @@
 //! Theorems.
 
 ghost use Rattle.std.specs.Prelude.{◌≡◌, ◌<◌, ℕ, ◌++◌, [], ◌∷◌, IfOk, OnOk, OnErr, length, map, Some, slice_get};
-ghost use Rattle.lf_terms.specs.Places.{place_of, IsNew};
+ghost use Rattle.basics.specs.Places.{place_of, IsNew};
 ghost use Rattle.lf_terms.specs.Types.{type_of};
 ghost use Rattle.file_elab.specs.ProgramViews.{theorem_of};
 
-use lf_terms::{Name, Names, NoMemory, Ty};
+use basics::{Name, Names, NoMemory};
+use lf_terms::Ty;
 use std::alloc::Global;
 use std::marker::Model;
 
@@ -42,7 +43,7 @@ impl Model for TheoremList {
 
 impl TheoremList {
     ghost use Rattle.std.specs.Prelude.{◌≡◌, ◌<◌, ℕ, ◌++◌, [], ◌∷◌, OnOk, OnErr, length, map, slice_get, Some};
-    ghost use Rattle.lf_terms.specs.Places.{place_of, IsNew};
+    ghost use Rattle.basics.specs.Places.{place_of, IsNew};
     ghost use Rattle.file_elab.specs.ProgramViews.{theorem_of};
 
     /// No theorem. It takes no memory.

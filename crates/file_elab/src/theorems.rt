@@ -15,7 +15,8 @@ use elab_terms::ElabFault;
 use elab_terms::closed::closed_type;
 use elab_terms::source::{Source, text};
 use file_trees::{Span, TypeTree};
-use lf_terms::{Name, Signature};
+use basics::Name;
+use lf_terms::Signature;
 use std::alloc::Global;
 
 // The most theorems.

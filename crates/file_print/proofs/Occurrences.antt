@@ -6,19 +6,19 @@ use Rattle.lf_definitions.specs.Occurrence.{Occurs, occurs_head, occurs_args, oc
 use Rattle.file_print.specs.Mentions.{is_variable, mentions_in_term, mentions_in_spine, mentions}
 
 head_is : (n : ℕ) (h : LfHead) (ts : Spine) → is_variable n h ≡ true → Occurs n (at h ts)
-head_is n (bound m) ts e = rw (← eqb-true n m e) (occurs_head n ts)
+head_is n (bound m) ts e = rw (← eqb-true n m e) (occurs_head (bound n) ts)
 head_is n (constant c) ts e = absurd cc
 head_is n (metavariable g) ts e = absurd cc
 
 mutual
   term_occurs : (n : ℕ) (t : LfTerm) → mentions_in_term n t ≡ true → Occurs n t
-  term_occurs n (lam b) e = occurs_lam n b (term_occurs (suc n) b e)
-  term_occurs n (at h ts) e = elim (or_cases (is_variable n h) (mentions_in_spine n ts) e) [ inl p ↦ head_is n h ts p | inr q ↦ occurs_args n h ts (spine_occurs n ts q) ]
+  term_occurs n (lam b) e = occurs_lam (bound n) b (term_occurs (suc n) b e)
+  term_occurs n (at h ts) e = elim (or_cases (is_variable n h) (mentions_in_spine n ts) e) [ inl p ↦ head_is n h ts p | inr q ↦ occurs_args (bound n) h ts (spine_occurs n ts q) ]
 
   spine_occurs : (n : ℕ) (ts : Spine) → mentions_in_spine n ts ≡ true → OccursSpine n ts
   spine_occurs n no_args e = absurd cc
   spine_occurs n (arg t ts) e =
-      elim (or_cases (mentions_in_term n t) (mentions_in_spine n ts) e) [ inl p ↦ occurs_first n t ts (term_occurs n t p) | inr q ↦ occurs_later n t ts (spine_occurs n ts q) ]
+      elim (or_cases (mentions_in_term n t) (mentions_in_spine n ts) e) [ inl p ↦ occurs_first (bound n) t ts (term_occurs n t p) | inr q ↦ occurs_later (bound n) t ts (spine_occurs n ts q) ]
 
 mutual
   term_mentions : (n : ℕ) (t : LfTerm) → Occurs n t → mentions_in_term n t ≡ true
@@ -33,8 +33,8 @@ mutual
 
 type_occurs : (n : ℕ) (a : LfType) → mentions n a ≡ true → OccursType n a
 type_occurs n (pi a b) e =
-    elim (or_cases (mentions n a) (mentions (suc n) b) e) [ inl p ↦ occurs_binder n a b (type_occurs n a p) | inr q ↦ occurs_rest n a b (type_occurs (suc n) b q) ]
-type_occurs n (family f args) e = occurs_family n f args (spine_occurs n args e)
+    elim (or_cases (mentions n a) (mentions (suc n) b) e) [ inl p ↦ occurs_binder (bound n) a b (type_occurs n a p) | inr q ↦ occurs_rest (bound n) a b (type_occurs (suc n) b q) ]
+type_occurs n (family f args) e = occurs_family (bound n) f args (spine_occurs n args e)
 
 type_mentions : (n : ℕ) (a : LfType) → OccursType n a → mentions n a ≡ true
 type_mentions n (pi a b) (occurs_binder _ _ _ o) = or_left (mentions n a) (mentions (suc n) b) (type_mentions n a o)

@@ -6,7 +6,8 @@ ghost use Rattle.lf_terms.specs.Types.{type_of};
 ghost use Rattle.file_print.specs.Marks.{ArePlaces, marks_of, with_marks};
 ghost use Rattle.file_print.specs.Mentions.{is_variable, mentions, mentions_in_spine, mentions_in_term};
 
-use lf_terms::{Head, NoMemory, Term, Terms, Ty};
+use basics::NoMemory;
+use lf_terms::{Head, Term, Terms, Ty};
 use std::alloc::Global;
 
 // For each binder of a type and of the types of its binders, in the order in which they are printed, whether the

@@ -4,7 +4,7 @@ ghost use Rattle.std.specs.Prelude.{◌≡◌, ◌++◌, OnOk, OnErr, decimal};
 ghost use Rattle.std.specs.Io.{StartsWith};
 ghost use Rattle.file_print.specs.Texts.{variable_text};
 
-use lf_terms::{Bytes, NoMemory};
+use basics::{Bytes, NoMemory};
 
 // Adds the digits of a number, one by one: no text of it alone is made. At most ten calls lie one in another.
 pub(crate) fn append_decimal(number: u32, out: &mut Bytes) -> Result<(), NoMemory>

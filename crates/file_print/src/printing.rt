@@ -11,7 +11,8 @@ ghost use Rattle.file_print.specs.Texts.{args_text, has_binders, head_text, is_n
 
 use crate::marking::binder_marks;
 use crate::numerals::append_variable;
-use lf_terms::{Bytes, Head, NoMemory, Signature, Term, Terms, Ty};
+use basics::{Bytes, NoMemory};
+use lf_terms::{Head, Signature, Term, Terms, Ty};
 use std::alloc::Global;
 
 /// Adds the text of a term that stands under so many binders. It names each variable by the number of

@@ -9,7 +9,8 @@ ghost use Rattle.lf_terms.specs.Terms.{head_of, term_of};
 ghost use Rattle.lf_terms.specs.Types.{type_of};
 
 use crate::printing::{print_term, print_type};
-use lf_terms::{Body, Bytes, Found, Head, Kind, Name, NoMemory, Signature, Term, Terms, Ty, Tys};
+use basics::{Bytes, Name, NoMemory};
+use lf_terms::{Body, Found, Head, Kind, Signature, Term, Terms, Ty, Tys};
 use std::alloc::Global;
 use std::test::Fail;
 

@@ -2,7 +2,7 @@
 use Rattle.std.proofs.Common.{◌≡◌, ℕ, zero, suc, Bool, true, false, Option, Some, None, option_map, if◌then◌else◌, nat_eq, List, [], ◌∷◌, All, refl, sym, ap, ◌∙◌, subst}
 use Rattle.std.proofs.lemmas.List.Elements.{All-head, All-tail, All-nil, All-cons}
 use mathlib.Core.Path.{fun_ext}
-use Rattle.lf_definitions.specs.Syntax.{LfHead, bound, constant, metavariable, SimpleType, LfType, Context, LfKind, pis, shape_of, shapes_of_types}
+use Rattle.lf_definitions.specs.Syntax.{LfHead, bound, constant, metavariable, SimpleType, LfType, Context, LfKind, pis, shape_of, shapes_of_types, atomic}
 use Rattle.lf_definitions.specs.Renaming.{next, raise_type}
 use Rattle.lf_definitions.specs.Shaping.{Scope, under, under_all, shape_at, shape_of_metavariable, globals, ShapedType, shaped_pi}
 use Rattle.lf_definitions.specs.Typing.{Typing, with_variable, with_context, Kinds, FormedContext, formed_empty, formed_entry, LfGoal, goal_type, type_at, type_of_metavariable, kinds_of, typed_globals, shapes_of, shapes_of_kinds}
@@ -194,7 +194,7 @@ ShapedTyping-typed_globals sig goals shaped shaped_goals = record {
 
     at_goal : (a : LfType) → (m : LfGoal) × (goal_type m ≡ a) × ShapedGoal sig goals m → ShapedType (kind_shapes_in sig) scope a
     at_goal a (m, same, shaped_m) =
-        subst (ShapedType (kind_shapes_in sig) scope) same (ShapedType-grown (ShapedType-pis m.context m.target shaped_m.0 shaped_m.1) scope same_globals)
+        subst (ShapedType (kind_shapes_in sig) scope) same (ShapedType-grown (ShapedType-pis m.context (atomic m.target) shaped_m.0 shaped_m.1) scope same_globals)
 
 pub ShapedTyping-typing_in : (sig : LfSignature) (goals : List LfGoal) (ctx : Context) → ShapedSignature sig → ShapedGoals sig goals → ShapedContextIn sig goals [] ctx → ShapedTyping (kinds_in sig) (typing_in sig goals ctx)
 ShapedTyping-typing_in sig goals ctx shaped shaped_goals shaped_ctx =

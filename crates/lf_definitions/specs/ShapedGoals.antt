@@ -1,6 +1,6 @@
 -- When contexts, signatures and lists of goals are shaped.
 use Rattle.std.specs.Prelude.{◌≡◌, ◌≢◌, ℕ, List, [], ◌∷◌, map, All, AllPairs, Option, Some, None}
-use Rattle.lf_definitions.specs.Syntax.{bound, constant, metavariable, SimpleType, LfType, Context, LfKind, shape_of, shapes_of_types}
+use Rattle.lf_definitions.specs.Syntax.{bound, constant, metavariable, SimpleType, LfType, atomic, Context, LfKind, shape_of, shapes_of_types}
 use Rattle.lf_definitions.specs.Shaping.{Scope, under, ShapedType, shapes_in}
 use Rattle.lf_definitions.specs.Typing.{Typing, Kinds, LfGoal, goal_type, shapes_of, shapes_of_kinds}
 use Rattle.lf_definitions.specs.Signatures.{LfSignature, family_kinds, constant_types, kinds_in}
@@ -36,7 +36,7 @@ ShapedSignature sig = All (ShapedContextIn sig [] []) (family_kinds sig) × All 
 
 -- Among goals, a goal is shaped where its context is, and its target in that context.
 abbrev pub ShapedGoal : LfSignature → List LfGoal → LfGoal → Type 0
-ShapedGoal sig goals g = ShapedContextIn sig goals [] g.context × ShapedTypeIn sig goals g.context g.target
+ShapedGoal sig goals g = ShapedContextIn sig goals [] g.context × ShapedTypeIn sig goals g.context (atomic g.target)
 
 -- A list of goals is shaped where their numbers differ and each is shaped among them.
 abbrev pub ShapedGoals : LfSignature → List LfGoal → Type 0

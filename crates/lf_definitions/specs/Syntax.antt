@@ -27,6 +27,15 @@ pub data LfType : Type 0 where
   pi : LfType → LfType → LfType
   family : ℕ → Spine → LfType
 
+-- An atom is what a type ends in: a family, by its number, with arguments.
+pub record LfAtom : Type 0 where
+  pub atom_family : ℕ
+  pub atom_args : Spine
+
+-- as a type with no binders
+abbrev pub atomic : LfAtom → LfType
+atomic a = family a.atom_family a.atom_args
+
 -- A context is the list of its entries, the oldest first. So are the binders of a kind.
 abbrev pub Context : Type 0
 Context = List LfType
@@ -43,12 +52,12 @@ abbrev pub arrows : List SimpleType → SimpleType → SimpleType
 arrows [] end = end
 arrows (a ∷ rest) end = arrow a (arrows rest end)
 
--- the shape of a type
 -- the family that a type ends in
 abbrev pub conclusion : LfType → ℕ
 conclusion (pi a b) = conclusion b
 conclusion (family f args) = f
 
+-- the shape of a type
 abbrev pub shape_of : LfType → SimpleType
 shape_of (pi a b) = arrow (shape_of a) (shape_of b)
 shape_of (family f args) = base

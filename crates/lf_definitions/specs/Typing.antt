@@ -1,6 +1,6 @@
 -- When a term has a type, and when types, contexts and kinds are well formed.
 use Rattle.std.specs.Prelude.{◌≡◌, ℕ, zero, suc, List, [], ◌∷◌, Option, Some, None, option_map, if◌then◌else◌, nat_eq}
-use Rattle.lf_definitions.specs.Syntax.{LfHead, bound, constant, metavariable, LfTerm, lam, at, Spine, no_args, arg, SimpleType, LfType, pi, family, Context, LfKind, pis, shape_of, shapes_of_types, base, arrows}
+use Rattle.lf_definitions.specs.Syntax.{LfHead, bound, constant, metavariable, LfTerm, lam, at, Spine, no_args, arg, SimpleType, LfType, pi, family, LfAtom, atomic, Context, LfKind, pis, shape_of, shapes_of_types, base, arrows}
 use Rattle.lf_definitions.specs.Renaming.{raise_type}
 use Rattle.lf_definitions.specs.Shaping.{Scope}
 use Rattle.lf_definitions.specs.Substitution.{Replacement, stays, push, push_all, SubstitutedSpine, SubstitutedType}
@@ -56,15 +56,15 @@ pub data FormedContext : Kinds → Typing → Context → Type 0 where
 abbrev pub FormedKind : Kinds → Typing → LfKind → Type 0
 FormedKind = FormedContext
 
--- A metavariable is a goal: its number, its context and its target, which is a family with arguments.
+-- A metavariable is a goal: its number, its context and its target.
 pub record LfGoal : Type 0 where
   pub id : ℕ
   pub context : Context
-  pub target : LfType
+  pub target : LfAtom
 
 -- As a head it has its context as binders over its target.
 abbrev pub goal_type : LfGoal → LfType
-goal_type g = pis g.context g.target
+goal_type g = pis g.context (atomic g.target)
 
 abbrev pub type_at : List LfType → ℕ → Option LfType
 type_at [] k = None

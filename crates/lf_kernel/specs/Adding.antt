@@ -2,7 +2,7 @@
 use Rattle.std.specs.Prelude.{◌≡◌, ℕ, ◌<◌, List, [], ◌∷◌, ◌++◌, length, Result, Ok, Err, Some}
 use Rattle.lf_definitions.specs.Failures.{FailsType, FailsKind}
 use Rattle.lf_definitions.specs.Signatures.{LfEntry, family_entry, constant_entry, LfSignature, name_of_entry, names_of, family_kinds, constant_types, kinds_in, typing_in, FormedEntry, IsNewName}
-use Rattle.lf_terms.specs.Places.{place_of}
+use Rattle.basics.specs.Places.{place_of}
 use Rattle.lf_kernel.specs.declared.sig_fault.SigFault.{SigFault}
 use Rattle.lf_kernel.specs.declared.sig_fault.SigFault.TheVariants.{Taken, Full, Ill, NoMemory}
 

@@ -9,7 +9,8 @@ ghost use Rattle.lf_terms.specs.Types.{type_of};
 use crate::answer::Check;
 use crate::sig_fault::SigFault;
 use crate::typing::{check_kind, check_type};
-use lf_terms::{GoalList, Kind, Name, NoMemory, Signature, Ty, Tys};
+use basics::{Name, NoMemory};
+use lf_terms::{GoalList, Kind, Signature, Ty, Tys};
 use std::alloc::Global;
 
 // The greatest number of families and constants together.

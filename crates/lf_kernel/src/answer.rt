@@ -4,8 +4,8 @@ ghost use Rattle.std.specs.Prelude.{◌≡◌};
 ghost use Rattle.lf_kernel.specs.Checks.{answer};
 
 use crate::path::turned;
-use lf_terms::Ids;
-use lf_terms::ids::Path;
+use basics::Ids;
+use basics::Path;
 
 /// Whether a term has a type, or a type is well formed, or else the path to the part at which it first
 /// fails.

@@ -7,7 +7,8 @@ ghost use Rattle.lf_kernel.specs.Heads.{typing_at, seen_type};
 ghost use Rattle.lf_terms.specs.Terms.{head_of};
 
 use crate::scope::{Scope, type_of_variable};
-use lf_terms::{GoalList, Head, NoMemory, Signature, Terms, Tys};
+use basics::NoMemory;
+use lf_terms::{GoalList, Head, Signature, Terms, Tys};
 
 /// The type of a head as it stands where the head is declared, and how far the variables outside have risen
 /// on the way to where it is used.

@@ -3,7 +3,7 @@
 
 ghost use Rattle.std.specs.Prelude.{◌≡◌, ◌++◌, [], ◌∷◌, IfOk, reverse, replicate};
 
-use lf_terms::{Ids, NoMemory};
+use basics::{Ids, NoMemory};
 
 // The path with one step more.
 pub fn step(mut path: Ids, child: usize) -> Result<Ids, NoMemory>

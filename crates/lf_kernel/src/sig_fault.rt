@@ -1,7 +1,7 @@
 //! Why a signature takes no further entry.
 
-use lf_terms::Name;
-use lf_terms::ids::Path;
+use basics::Name;
+use basics::Path;
 
 /// Why a family or a constant isn't added. The signature is then as it was.
 #[derive(Drop)]

@@ -6,7 +6,8 @@ use crate::adding::{add_const, add_family};
 use crate::answer::Check;
 use crate::sig_fault::SigFault;
 use crate::typing::{check, check_type};
-use lf_terms::{Ctx, GoalList, Head, Kind, Name, NoMemory, Path, Signature, Term, Terms, Ty, Tys};
+use basics::{Name, NoMemory, Path};
+use lf_terms::{Ctx, GoalList, Head, Kind, Signature, Term, Terms, Ty, Tys};
 use std::alloc::Global;
 use std::test::Fail;
 

@@ -11,7 +11,8 @@ use crate::answer::{Check, answer_of};
 use crate::scope::Scope;
 use crate::walk::walk_term;
 use crate::walk_type::{walk_binders, walk_type};
-use lf_terms::{Ctx, GoalList, Kind, NoMemory, Signature, Term, Ty};
+use basics::NoMemory;
+use lf_terms::{Ctx, GoalList, Kind, Signature, Term, Ty};
 use std::alloc::Global;
 
 /// Whether a term has a type, in a context over a signature, with goals as metavariables. `Ill` carries the

@@ -21,7 +21,8 @@ use crate::stripping::body_under;
 use lf_terms::same::same_terms;
 use lf_terms::shape_of::shapes_of;
 use lf_terms::subst::{put_all, put_type};
-use lf_terms::{GoalList, Head, Ids, NoMemory, Shapes, Signature, Term, Terms, Ty, Tys};
+use basics::{Ids, NoMemory};
+use lf_terms::{GoalList, Head, Shapes, Signature, Term, Terms, Ty, Tys};
 use std::alloc::Global;
 
 // Whether a term has a type, or the path at which it fails.

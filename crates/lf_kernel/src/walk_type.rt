@@ -14,7 +14,8 @@ use crate::path::step;
 use crate::scope::Scope;
 use crate::walk::walk_args;
 use lf_terms::shape_of::shapes_of;
-use lf_terms::{GoalList, Ids, NoMemory, Signature, Terms, Ty};
+use basics::{Ids, NoMemory};
+use lf_terms::{GoalList, Signature, Terms, Ty};
 use std::alloc::Global;
 
 // Whether binders are well formed, each in the scope of those before it, or the path at which one fails.

@@ -1,5 +1,3 @@
-pub mod PlacesOfImages
-pub mod Tables
 pub mod Spines
 pub mod ShapeLists
 pub mod TypeLists
@@ -8,7 +6,6 @@ pub mod Walks
 pub mod Putting
 pub mod Abstractions
 pub mod Scopes
-pub mod NamePlaces
 pub mod SignatureEntries
 pub mod PuttingTypes
 pub mod Mentions

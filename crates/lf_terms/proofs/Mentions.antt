@@ -55,7 +55,7 @@ at_occurs n h ts (occurs_head _ _) = inl refl
 at_occurs n h ts (occurs_args _ _ _ o) = inr o
 
 pub occurs_at_head : (n : ℕ) (h : LfHead) (ts : Spine) → h ≡ bound n → Occurs n (at h ts)
-occurs_at_head n h ts is = let P : LfHead → Type 0 = λ k. Occurs n (at k ts) in subst P (sym is) (occurs_head n ts)
+occurs_at_head n h ts is = let P : LfHead → Type 0 = λ k. Occurs n (at k ts) in subst P (sym is) (occurs_head (bound n) ts)
 
 no_spine_occurs : (n : ℕ) → OccursSpine n no_args → ⊥
 no_spine_occurs n o = elim o [ ]
@@ -64,17 +64,17 @@ no_spine_occurs n o = elim o [ ]
 spine_more_back : (n : ℕ) (ts : List Term) (t : Term) → OccursSpine n (spine_of (ts ++ t ∷ [])) → OccursSpine n (spine_of ts) ⊎ Occurs n (term_of t)
 spine_more_back n [] t (occurs_first _ _ _ o) = inr o
 spine_more_back n [] t (occurs_later _ _ _ o) = absurd (no_spine_occurs n o)
-spine_more_back n (u ∷ ts) t (occurs_first _ _ _ o) = inl (occurs_first n _ _ o)
-spine_more_back n (u ∷ ts) t (occurs_later _ _ _ o) = elim (spine_more_back n ts t o) [ inl p ↦ inl (occurs_later n _ _ p) | inr q ↦ inr q ]
+spine_more_back n (u ∷ ts) t (occurs_first _ _ _ o) = inl (occurs_first (bound n) _ _ o)
+spine_more_back n (u ∷ ts) t (occurs_later _ _ _ o) = elim (spine_more_back n ts t o) [ inl p ↦ inl (occurs_later (bound n) _ _ p) | inr q ↦ inr q ]
 
 spine_more_old : (n : ℕ) (ts : List Term) (t : Term) → OccursSpine n (spine_of ts) → OccursSpine n (spine_of (ts ++ t ∷ []))
 spine_more_old n [] t o = absurd (no_spine_occurs n o)
-spine_more_old n (u ∷ ts) t (occurs_first _ _ _ o) = occurs_first n _ _ o
-spine_more_old n (u ∷ ts) t (occurs_later _ _ _ o) = occurs_later n _ _ (spine_more_old n ts t o)
+spine_more_old n (u ∷ ts) t (occurs_first _ _ _ o) = occurs_first (bound n) _ _ o
+spine_more_old n (u ∷ ts) t (occurs_later _ _ _ o) = occurs_later (bound n) _ _ (spine_more_old n ts t o)
 
 spine_more_new : (n : ℕ) (ts : List Term) (t : Term) → Occurs n (term_of t) → OccursSpine n (spine_of (ts ++ t ∷ []))
-spine_more_new n [] t o = occurs_first n _ _ o
-spine_more_new n (u ∷ ts) t o = occurs_later n _ _ (spine_more_new n ts t o)
+spine_more_new n [] t o = occurs_first (bound n) _ _ o
+spine_more_new n (u ∷ ts) t o = occurs_later (bound n) _ _ (spine_more_new n ts t o)
 
 -- Steps of the walk over terms.
 
@@ -89,7 +89,7 @@ pub lam_marks : (old new : List Bool) (local inside : ℕ) (t b : LfTerm) → t 
 lam_marks old new local inside t b is deep m =
     let at_depth : (n : ℕ) → inside + n ≡ suc (local + n) = λ n. omega arith in
     let there : (n : ℕ) → Occurs (inside + n) b → Occurs (local + n) (lam b) = λ n o.
-    let P : ℕ → Type 0 = λ k. Occurs k b in occurs_lam (local + n) b (subst P (at_depth n) o) in
+    let P : ℕ → Type 0 = λ k. Occurs k b in occurs_lam (bound (local + n)) b (subst P (at_depth n) o) in
     let back : (n : ℕ) → Occurs (local + n) (lam b) → Occurs (inside + n) b = λ n o.
     let P : ℕ → Type 0 = λ k. Occurs k b in subst P (sym (at_depth n)) (lam_occurs (local + n) b o) in
     let Q : LfTerm → Type 0 = λ u. Marks old new (λ n. Occurs (local + n) u) in
@@ -100,7 +100,7 @@ pub at_marks : (old between new : List Bool) (local : ℕ) (t : LfTerm) (h : LfH
 at_marks old between new local t h ts is first second =
     let Q : LfTerm → Type 0 = λ u. Marks old new (λ n. Occurs (local + n) u) in
     subst Q (sym is) (marks_then old between new _ _ _ first second
-    (λ n e. occurs_at_head (local + n) h ts e) (λ n o. occurs_args (local + n) h ts o) (λ n o. at_occurs (local + n) h ts o))
+    (λ n e. occurs_at_head (local + n) h ts e) (λ n o. occurs_args (bound (local + n)) h ts o) (λ n o. at_occurs (local + n) h ts o))
 
 pub no_terms_marked : (old : List Bool) (local : ℕ) → Marks old old (λ n. OccursSpine (local + n) no_args)
 no_terms_marked old local = marks_same old _ (λ n o. no_spine_occurs (local + n) o)
@@ -165,12 +165,12 @@ pis_occurs n (b ∷ bs) f args (occurs_rest _ _ _ o) =
 
 occurs_pis_binder : (n : ℕ) (bs : List LfType) (end : LfType) → OccursBinders n bs → OccursType n (pis bs end)
 occurs_pis_binder n [] end o = absurd (no_binder_occurs n o)
-occurs_pis_binder n (b ∷ bs) end (occurs_here _ _ _ o) = occurs_binder n b _ o
-occurs_pis_binder n (b ∷ bs) end (occurs_after _ _ _ o) = occurs_rest n b _ (occurs_pis_binder (suc n) bs end o)
+occurs_pis_binder n (b ∷ bs) end (occurs_here _ _ _ o) = occurs_binder (bound n) b _ o
+occurs_pis_binder n (b ∷ bs) end (occurs_after _ _ _ o) = occurs_rest (bound n) b _ (occurs_pis_binder (suc n) bs end o)
 
 occurs_pis_end : (n : ℕ) (bs : List LfType) (f : ℕ) (args : Spine) → OccursSpine (n + length bs) args → OccursType n (pis bs (family f args))
-occurs_pis_end n [] f args o = occurs_family n f args (let P : ℕ → Type 0 = λ k. OccursSpine k args in let e : n + 0 ≡ n = omega arith in subst P e o)
-occurs_pis_end n (b ∷ bs) f args o = occurs_rest n b _ (occurs_pis_end (suc n) bs f args
+occurs_pis_end n [] f args o = occurs_family (bound n) f args (let P : ℕ → Type 0 = λ k. OccursSpine k args in let e : n + 0 ≡ n = omega arith in subst P e o)
+occurs_pis_end n (b ∷ bs) f args o = occurs_rest (bound n) b _ (occurs_pis_end (suc n) bs f args
     (let P : ℕ → Type 0 = λ k. OccursSpine k args in let e : n + suc (length bs) ≡ suc n + length bs = omega arith in subst P e o))
 
 pub pis_marks : (old between new : List Bool) (local inside : ℕ) (bs : List LfType) (f : ℕ) (args : Spine) → inside ≡ local + length bs →

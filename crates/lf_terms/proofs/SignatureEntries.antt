@@ -9,10 +9,10 @@ use Rattle.lf_definitions.specs.Syntax.{SimpleType, LfType, shape_of, shapes_of_
 use Rattle.lf_definitions.specs.Typing.{kinds_of, type_at}
 use Rattle.lf_definitions.specs.Signatures.{LfEntry, family_entry, constant_entry, LfSignature, name_of_entry, names_of, family_names, family_kinds, constant_names, constant_types, IsNewName, FormedEntry, FormedSignature, formed_nothing, formed_more}
 use Rattle.lf_terms.specs.Types.{type_of}
-use Rattle.lf_terms.specs.Places.{place_of}
+use Rattle.basics.specs.Places.{place_of}
 use Rattle.lf_terms.specs.Finding.{Finds}
 use Rattle.lf_terms.specs.Entries.{entry_of_family, entry_of_constant, entries_of, numbers_from, families_in, constants_in, Keeps}
-use Rattle.lf_terms.proofs.NamePlaces.{place_found, place_absent, place_new}
+use Rattle.basics.proofs.NamePlaces.{place_found, place_absent, place_new}
 use Rattle.lf_terms.specs.declared.found.Found.{Found}
 use Rattle.lf_terms.specs.declared.found.Found.TheVariants.{Family, Const, Absent}
 use Rattle.lf_terms.specs.declared.signature.FamilyEntry.{FamilyEntry}

@@ -1,4 +1,3 @@
-pub mod Places
 pub mod Terms
 pub mod TermSizes
 pub mod Shapes

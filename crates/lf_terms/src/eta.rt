@@ -8,7 +8,7 @@ ghost use Rattle.lf_terms.specs.Shapes.{simple_type_of};
 ghost use Rattle.lf_terms.specs.Terms.{head_of, term_of};
 
 use crate::head::Head;
-use crate::no_memory::NoMemory;
+use basics::NoMemory;
 use crate::shape::{Shape, Shapes};
 use crate::term::{Body, Term, Terms};
 use std::alloc::Global;

@@ -3,7 +3,7 @@
 ghost use Rattle.std.specs.Prelude.{◌≡◌, ◌++◌, [], ◌∷◌, OnOk, OnErr, length, map};
 ghost use Rattle.lf_terms.specs.Targets.{goal_of};
 
-use crate::no_memory::NoMemory;
+use basics::NoMemory;
 use crate::ty::{Atom, Ctx};
 use std::alloc::Global;
 use std::marker::Model;

@@ -7,15 +7,10 @@
 //! is well formed and finds its names.
 #![tactic(auto)]
 
-pub mod bytes;
 pub mod eta;
 pub mod found;
 pub mod goal;
 pub mod head;
-pub mod ids;
-pub mod name;
-pub mod names;
-pub mod no_memory;
 pub mod occurs;
 pub mod same;
 pub mod shape;
@@ -25,21 +20,14 @@ pub mod signature;
 pub mod subst;
 pub mod term;
 pub mod ty;
-pub mod words;
 
-pub use bytes::Bytes;
 pub use found::Found;
 pub use goal::{Goal, GoalList};
 pub use head::Head;
-pub use ids::{Ids, Path};
-pub use name::Name;
-pub use names::Names;
-pub use no_memory::NoMemory;
 pub use shape::{MetaShape, MetaShapes, Shape, Shapes};
 pub use signature::Signature;
 pub use term::{Body, Term, Terms};
 pub use ty::{Atom, Ctx, Kind, Ty, Tys};
-pub use words::Words;
 
 #[cfg(test)]
 mod signature_tests;

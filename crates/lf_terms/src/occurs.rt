@@ -8,7 +8,7 @@ ghost use Rattle.lf_terms.specs.Terms.{head_of, term_of};
 ghost use Rattle.lf_terms.specs.Types.{type_of};
 
 use crate::head::Head;
-use crate::no_memory::NoMemory;
+use basics::NoMemory;
 use crate::term::{Term, Terms};
 use crate::ty::{Ty, Tys};
 use std::alloc::Global;

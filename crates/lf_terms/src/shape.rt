@@ -3,7 +3,7 @@
 ghost use Rattle.std.specs.Prelude.{◌≡◌, ◌++◌, IfOk, OnOk, OnErr, [], ◌∷◌, length};
 ghost use Rattle.lf_terms.specs.Shapes.{simple_type_of, simple_types_of, metas_of};
 
-use crate::no_memory::NoMemory;
+use basics::NoMemory;
 use std::alloc::Global;
 use std::marker::Model;
 use std::sync::Arc;

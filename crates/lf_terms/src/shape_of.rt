@@ -5,7 +5,7 @@ ghost use Rattle.lf_definitions.specs.Syntax.{shape_of, shapes_of_types};
 ghost use Rattle.lf_terms.specs.Shapes.{simple_type_of};
 ghost use Rattle.lf_terms.specs.Types.{type_of};
 
-use crate::no_memory::NoMemory;
+use basics::NoMemory;
 use crate::shape::{Shape, Shapes};
 use crate::ty::{Ty, Tys};
 use std::alloc::Global;

@@ -5,12 +5,12 @@ ghost use Rattle.std.specs.Vec.{vec_len, vec_capacity};
 ghost use Rattle.lf_definitions.specs.Syntax.{shapes_of_types};
 ghost use Rattle.lf_definitions.specs.Typing.{type_at};
 ghost use Rattle.lf_definitions.specs.Signatures.{LfSignature, family_entry, constant_entry, names_of, family_names, family_kinds, constant_names, constant_types, kinds_in, IsNewName, FormedEntry, FormedSignature};
-ghost use Rattle.lf_terms.specs.Places.{place_of};
+ghost use Rattle.basics.specs.Places.{place_of};
 ghost use Rattle.lf_terms.specs.Types.{type_of};
 
 use crate::found::Found;
-use crate::name::Name;
-use crate::names::Names;
+use basics::Name;
+use basics::Names;
 use crate::shape::Shapes;
 use crate::shape_of::shape_of;
 use crate::ty::{Kind, Ty};
@@ -61,7 +61,7 @@ impl Signature {
     ghost use Rattle.lf_definitions.specs.Syntax.{shapes_of_types};
     ghost use Rattle.lf_definitions.specs.Typing.{type_at};
     ghost use Rattle.lf_definitions.specs.Signatures.{family_entry, constant_entry, names_of, family_names, family_kinds, constant_names, constant_types, kinds_in, IsNewName, FormedEntry, FormedSignature};
-    ghost use Rattle.lf_terms.specs.Places.{place_of};
+    ghost use Rattle.basics.specs.Places.{place_of};
     ghost use Rattle.lf_terms.specs.Types.{type_of};
     ghost use Rattle.lf_terms.specs.Finding.{Finds};
 

@@ -1,8 +1,8 @@
 //! With ample memory a signature takes entries and finds them.
 
 use crate::found::Found;
-use crate::name::Name;
-use crate::no_memory::NoMemory;
+use basics::Name;
+use basics::NoMemory;
 use crate::signature::Signature;
 use crate::term::Terms;
 use crate::ty::{Kind, Ty, Tys};

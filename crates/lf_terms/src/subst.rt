@@ -10,7 +10,7 @@ ghost use Rattle.lf_terms.specs.Terms.{term_of, spine_of};
 ghost use Rattle.lf_terms.specs.Types.{type_of};
 
 use crate::head::Head;
-use crate::no_memory::NoMemory;
+use basics::NoMemory;
 use crate::shape::{MetaShapes, Shape, Shapes};
 use crate::term::{Body, Term, Terms};
 use crate::ty::{Ty, Tys};

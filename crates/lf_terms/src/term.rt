@@ -5,7 +5,7 @@ ghost use Rattle.lf_definitions.specs.Syntax.{no_args, args_count};
 ghost use Rattle.lf_terms.specs.Terms.{term_of, spine_of};
 
 use crate::head::Head;
-use crate::no_memory::NoMemory;
+use basics::NoMemory;
 use std::alloc::Global;
 use std::marker::Model;
 use std::sync::Arc;

@@ -8,7 +8,7 @@ ghost use Rattle.lf_terms.specs.Types.{type_of};
 
 use crate::eta::eta;
 use crate::head::Head;
-use crate::no_memory::NoMemory;
+use basics::NoMemory;
 use crate::same::{same, same_atom, same_terms, same_ty, same_tys};
 use crate::shape::{MetaShapes, Shape, Shapes};
 use crate::shape_of::shape_of;

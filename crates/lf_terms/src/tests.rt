@@ -1,10 +1,10 @@
 //! With ample memory each list holds what went in, in order.
 
-use crate::bytes::Bytes;
-use crate::ids::Ids;
-use crate::name::Name;
-use crate::names::Names;
-use crate::words::Words;
+use basics::Bytes;
+use basics::Ids;
+use basics::Name;
+use basics::Names;
+use basics::Words;
 use std::test::Fail;
 
 #[test]

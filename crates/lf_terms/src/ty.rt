@@ -3,7 +3,7 @@
 ghost use Rattle.std.specs.Prelude.{◌≡◌, IfOk, [], length};
 ghost use Rattle.lf_terms.specs.Types.{type_of, types_of, atom_of};
 
-use crate::no_memory::NoMemory;
+use basics::NoMemory;
 use crate::term::Terms;
 use std::alloc::Global;
 use std::marker::Model;

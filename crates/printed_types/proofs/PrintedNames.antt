@@ -9,7 +9,7 @@ use Rattle.std.proofs.lemmas.Str.{encodes_same}
 use Rattle.unicode_ident.proofs.Computing.{unicode_ident}
 use Rattle.lex_text.specs.Characters.{Spells, MayStart}
 use Rattle.lex_text.specs.Tokens.{IsWord}
-use Rattle.lf_terms.specs.Places.{place_of}
+use Rattle.basics.specs.Places.{place_of}
 use Rattle.lf_definitions.specs.Syntax.{bound, constant, LfType}
 use Rattle.lf_definitions.specs.Typing.{type_at}
 use Rattle.lf_definitions.specs.Signatures.{LfSignature, family_entry, constant_entry, constant_names, constant_types, family_names, kinds_in, FormedSignature, name_at}

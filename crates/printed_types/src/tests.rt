@@ -8,7 +8,8 @@ use file_print::print_type;
 use file_syntax::parse;
 use lex_text::tokens::tokens;
 use lf_terms::same::same_ty;
-use lf_terms::{Bytes, NoMemory, Signature};
+use basics::{Bytes, NoMemory};
+use lf_terms::Signature;
 use std::alloc::Global;
 use std::test::Fail;
 

@@ -2,7 +2,7 @@
 
 ghost use Rattle.std.specs.Prelude.{◌≡◌, ◌<◌, List, [], ◌∷◌, ◌++◌, length, map, codes, Some, None, All, slice_get, option_copied, IfOk, IfErr, OnOk, OnErr};
 ghost use Rattle.lf_definitions.specs.Signatures.{constant_types, family_kinds};
-ghost use Rattle.lf_terms.specs.Places.{place_of};
+ghost use Rattle.basics.specs.Places.{place_of};
 ghost use Rattle.rule_sets.specs.Books.{first_book, list_of, listed};
 ghost use Rattle.rule_sets.specs.Refusals.{Adds, AddsList};
 ghost use Rattle.rule_sets.specs.Tests.{IsChosen, IsFree};
@@ -11,7 +11,8 @@ use crate::faults::first_fault;
 use crate::lists::first_fault_of_list;
 use crate::rule::{Builder, CtorFault, Phase, Rule, RuleFault};
 use indexmap::IndexMap;
-use lf_terms::{Ids, Name, Names, NoMemory, Signature};
+use basics::{Ids, Name, Names, NoMemory};
+use lf_terms::Signature;
 use std::alloc::Global;
 use std::marker::Model;
 

@@ -9,7 +9,8 @@ ghost use Rattle.rule_sets.specs.Tests.{IsChosen, HasNoFault, HasMajor, HasPremi
 use crate::book::RuleBook;
 use crate::rule::{Builder, Phase, Rule, RuleFault};
 use lf_terms::occurs::mentioned_binders;
-use lf_terms::{NoMemory, Signature, Ty};
+use basics::NoMemory;
+use lf_terms::{Signature, Ty};
 use std::alloc::Global;
 
 // The most rules of a book.

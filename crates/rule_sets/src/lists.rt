@@ -7,7 +7,8 @@ ghost use Rattle.rule_sets.specs.Refusals.{AreConstructors, IsFirstFaultOfList};
 
 use crate::rule::CtorFault;
 use indexmap::IndexSet;
-use lf_terms::{Ids, NoMemory, Signature};
+use basics::{Ids, NoMemory};
+use lf_terms::Signature;
 use std::alloc::Global;
 
 /// The first fault that a list of constructors has by itself, if it has one.

@@ -6,7 +6,7 @@ ghost use Rattle.rule_sets.specs.Turns.{key_of, AreTurns};
 
 use crate::book::RuleBook;
 use crate::rule::{Phase, Sets};
-use lf_terms::{Name, Names, NoMemory};
+use basics::{Name, Names, NoMemory};
 use std::alloc::Global;
 use std::marker::Model;
 

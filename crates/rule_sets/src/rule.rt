@@ -1,6 +1,6 @@
 //! Rules.
 
-use lf_terms::{Ids, Name, Words};
+use basics::{Ids, Name, Words};
 
 /// When a rule is tried, and how it is weighed: normalisation and safe rules by their penalty,
 /// lower ones first, and unsafe rules by their chance of success in percent, higher ones first.

@@ -8,7 +8,8 @@ ghost use Rattle.rule_sets.specs.Tests.{IsChosen};
 
 use crate::book::RuleBook;
 use crate::rule::{Builder, CtorFault, Phase, Rule, RuleFault, Sets};
-use lf_terms::{Found, Ids, Kind, Name, NoMemory, Signature, Terms, Ty, Tys};
+use basics::{Ids, Name, NoMemory};
+use lf_terms::{Found, Kind, Signature, Terms, Ty, Tys};
 use std::alloc::Global;
 use std::test::Fail;
 

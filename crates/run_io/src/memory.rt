@@ -10,7 +10,7 @@ use crate::counting::counted_zero;
 use crate::sink::Sink;
 use crate::source::{Failed, Source};
 use crate::sure::{SureSink, SureSource};
-use lf_terms::{Bytes, Ids, NoMemory};
+use basics::{Bytes, Ids, NoMemory};
 use std::alloc::Global;
 use std::marker::Model;
 

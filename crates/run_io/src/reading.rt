@@ -5,7 +5,7 @@ ghost use Rattle.run_io.specs.Causes.{Rose};
 ghost use Rattle.run_io.specs.Moves.{TakesAll, TakesAtMost, TakesMoreThan};
 
 use crate::source::{Failed, Source};
-use lf_terms::{Bytes, NoMemory};
+use basics::{Bytes, NoMemory};
 use std::alloc::Global;
 
 /// The most bytes that are asked of a source at once.

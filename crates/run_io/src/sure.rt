@@ -8,7 +8,7 @@ ghost use Rattle.run_io.specs.Counts.{zeros_after};
 use crate::counting::counted_zero;
 use crate::sink::Sink;
 use crate::source::{Failed, Source};
-use lf_terms::{Bytes, NoMemory};
+use basics::{Bytes, NoMemory};
 use std::alloc::Global;
 use std::marker::Model;
 

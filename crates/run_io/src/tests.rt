@@ -7,7 +7,7 @@ use crate::source::{Failed, Source};
 use crate::standard::{StdSink, StdSource};
 use crate::sure::{SureSink, SureSource};
 use crate::writing::{WriteEnd, write_piece};
-use lf_terms::{Bytes, Ids};
+use basics::{Bytes, Ids};
 use std::alloc::Global;
 use std::io;
 use std::io::{ErrorKind, Read, Write};

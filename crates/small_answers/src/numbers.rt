@@ -6,7 +6,7 @@ ghost use Rattle.small_answers.specs.Additions.{AddsNumbers};
 
 use crate::choices::choice_of;
 use crate::lengths::MOST;
-use lf_terms::{Ids, NoMemory};
+use basics::{Ids, NoMemory};
 use small_programs::SmallProgram;
 use small_search::Table;
 

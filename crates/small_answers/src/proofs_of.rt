@@ -5,7 +5,7 @@ ghost use Rattle.small_programs.specs.SmallPrograms.{IsNumbered};
 
 use crate::lengths::Length;
 use crate::table_lengths::lengths_of;
-use lf_terms::NoMemory;
+use basics::NoMemory;
 use small_programs::SmallProgram;
 use small_search::{Table, search};
 use std::alloc::Global;

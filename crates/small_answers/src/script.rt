@@ -6,7 +6,7 @@ ghost use Rattle.small_programs.specs.Names.{rule_names};
 ghost use Rattle.small_answers.specs.Chosen.{IsRuleNumber};
 ghost use Rattle.small_answers.specs.Texts.{script_text};
 
-use lf_terms::{Bytes, NoMemory};
+use basics::{Bytes, NoMemory};
 use small_programs::SmallProgram;
 
 /// The name of the rule of a number.

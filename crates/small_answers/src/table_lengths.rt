@@ -7,7 +7,7 @@ ghost use Rattle.small_answers.specs.Lengths.{AreLengths, IsLength};
 use crate::choices::choice_of;
 use crate::lengths::{Length, capped_sum, length_by};
 use crate::script::rule_name;
-use lf_terms::NoMemory;
+use basics::NoMemory;
 use small_programs::SmallProgram;
 use small_search::Table;
 use std::alloc::Global;

@@ -8,7 +8,7 @@ ghost use Rattle.small_answers.specs.Chosen.{GivesTerm};
 ghost use Rattle.small_answers.specs.Additions.{AddsTerm};
 
 use crate::choices::choice_of;
-use lf_terms::{Bytes, NoMemory};
+use basics::{Bytes, NoMemory};
 use small_programs::SmallProgram;
 use small_search::Table;
 

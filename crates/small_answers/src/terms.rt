@@ -6,7 +6,8 @@ ghost use Rattle.small_answers.specs.Copies.{AreTerms, IsGiven};
 
 use crate::choices::choice_of;
 use lf_terms::term::copy;
-use lf_terms::{Head, NoMemory, Term, Terms};
+use basics::NoMemory;
+use lf_terms::{Head, Term, Terms};
 use small_programs::SmallProgram;
 use small_search::Table;
 use std::alloc::Global;

@@ -10,7 +10,8 @@ ghost use Rattle.small_forms.specs.Smallness.{IsSmallForm, binder_families, perc
 
 use crate::restrictions::is_small;
 use file_elab::{Program, TheoremList};
-use lf_terms::{Ids, Name, NoMemory, Signature, Ty};
+use basics::{Ids, Name, NoMemory};
+use lf_terms::{Signature, Ty};
 use rule_sets::{Phase, Rule, RuleBook};
 use small_programs::{
     SmallConst, SmallConsts, SmallProgram, SmallRule, SmallRules, SmallTheorem, SmallTheorems,

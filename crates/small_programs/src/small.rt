@@ -2,7 +2,7 @@
 
 ghost use Rattle.std.specs.Prelude.{◌≡◌, ◌++◌, [], ◌∷◌, OnOk, OnErr, length};
 
-use lf_terms::{Ids, Name, NoMemory};
+use basics::{Ids, Name, NoMemory};
 use std::alloc::Global;
 use std::marker::Model;
 

@@ -9,7 +9,7 @@ ghost use Rattle.small_search.specs.Progress.{IsPrepared, IsDraft, IsPassedWhole
 use crate::closing::Closing;
 use crate::constants::constant_at;
 use crate::waiting::Waiting;
-use lf_terms::NoMemory;
+use basics::NoMemory;
 use small_programs::SmallProgram;
 use std::alloc::Global;
 

@@ -3,7 +3,7 @@
 ghost use Rattle.std.specs.Prelude.{◌≡◌, ◌<◌, length, All, IfOk};
 ghost use Rattle.small_search.specs.RulesOf.{IsRulesOf};
 
-use lf_terms::NoMemory;
+use basics::NoMemory;
 use small_programs::SmallRule;
 use std::alloc::Global;
 

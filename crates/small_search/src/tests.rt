@@ -5,7 +5,7 @@ ghost use Rattle.small_programs.specs.SmallPrograms.{HasFamiliesBelow, IsNumbere
 
 use crate::table::Table;
 use crate::worklist::search;
-use lf_terms::{Ids, Name, NoMemory};
+use basics::{Ids, Name, NoMemory};
 use small_programs::{SmallConst, SmallConsts, SmallProgram, SmallRule, SmallRules, SmallTheorems};
 use std::alloc::Global;
 use std::test::Fail;

@@ -5,7 +5,7 @@ ghost use Rattle.small_programs.specs.SmallPrograms.{IsNumbered};
 ghost use Rattle.small_search.specs.Waits.{IsWaiting, IsComplete, KeepsWaiting, WaitsForBinders};
 
 use crate::constants::constant_at;
-use lf_terms::NoMemory;
+use basics::NoMemory;
 use small_programs::SmallProgram;
 use std::alloc::Global;
 

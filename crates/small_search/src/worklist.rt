@@ -10,7 +10,7 @@ use crate::draft::Draft;
 use crate::rules_of::rules_of;
 use crate::table::Table;
 use crate::waiting::{Waiting, waiting_of};
-use lf_terms::NoMemory;
+use basics::NoMemory;
 use small_programs::SmallProgram;
 use std::alloc::Global;
 

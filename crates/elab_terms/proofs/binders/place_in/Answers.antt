@@ -1,5 +1,5 @@
 use Rattle.std.proofs.Common.{◌≡◌, Some, length, sym, ap, ◌∙◌, subst₂, arith}
-use Rattle.lf_terms.specs.Places.{place_of}
+use Rattle.basics.specs.Places.{place_of}
 use Rattle.elab_terms.specs.Binding.{AddsName, name_occurred, name_is_new}
 use Rattle.elab_terms.proofs.GrowingNames.{place_last}
 use Rattle.elab_terms.proofs.binders.place_in.Goals as goal

@@ -1,7 +1,7 @@
 use Rattle.std.proofs.Common.{rules, ℕ, List, [], ◌+◌, take, sym, ap, ◌∙◌, subst}
 use Rattle.lf_definitions.specs.Signatures.{constant_names}
 use Rattle.lf_definitions.proofs.Failures.{conclusion-pis}
-use Rattle.lf_terms.specs.Places.{place_of}
+use Rattle.basics.specs.Places.{place_of}
 use Rattle.rule_sets.specs.Refusals.{AreConstructors, HasFamily}
 use Rattle.rule_sets.proofs.Constructors.{has_family, family_had, was_seen, was_unseen}
 use Rattle.elab_terms.specs.Sources.{text_in}

@@ -1,6 +1,6 @@
 use Rattle.std.proofs.Common.{sym, ap, ◌∙◌}
 use Rattle.lf_definitions.specs.Signatures.{family_names}
-use Rattle.lf_terms.specs.Places.{place_of}
+use Rattle.basics.specs.Places.{place_of}
 use Rattle.rule_sets.proofs.Tested.{not_none}
 use Rattle.file_elab.specs.Programs.{refuses_listed_family, refuses_listed}
 use Rattle.file_elab.proofs.constructors.unlisted_family.Goals as goal

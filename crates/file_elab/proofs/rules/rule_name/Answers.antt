@@ -1,5 +1,5 @@
 use Rattle.std.proofs.Common.{◌≡◌, ℕ, Option, Some, None, arith, sym, ap, ◌∙◌}
-use Rattle.lf_terms.specs.Places.{place_of}
+use Rattle.basics.specs.Places.{place_of}
 use Rattle.file_elab.specs.Programs.{refuses_taken, refuses_many}
 use Rattle.file_elab.specs.ReadRules.{names_in}
 use Rattle.file_elab.proofs.RuleReading.{names_in_count}

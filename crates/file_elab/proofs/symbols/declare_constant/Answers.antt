@@ -1,8 +1,8 @@
 use Rattle.std.proofs.Common.{[], ◌∷◌, ◌++◌, sym, ap, ◌∙◌, subst}
 use Rattle.lf_definitions.specs.Signatures.{constant_entry, names_of, typing_in}
-use Rattle.lf_terms.specs.Places.{place_of}
+use Rattle.basics.specs.Places.{place_of}
 use Rattle.lf_terms.specs.Types.{type_of}
-use Rattle.lf_terms.proofs.NamePlaces.{place_absent}
+use Rattle.basics.proofs.NamePlaces.{place_absent}
 use Rattle.file_trees.specs.declared.decl_tree.DeclTree.TheVariants as declarations
 use Rattle.file_elab.specs.Programming.{program_with, RefusesSymbol}
 use Rattle.file_elab.specs.Programs.{RefusesName, most_symbols, Declares, declares_constant, refuses_constant_name, refuses_constant_type}

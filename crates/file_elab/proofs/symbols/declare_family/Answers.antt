@@ -1,7 +1,7 @@
 use Rattle.std.proofs.Common.{[], ◌∷◌, ◌++◌, sym, ap, ◌∙◌, subst}
 use Rattle.lf_definitions.specs.Signatures.{family_entry, names_of, typing_in}
-use Rattle.lf_terms.specs.Places.{place_of}
-use Rattle.lf_terms.proofs.NamePlaces.{place_absent}
+use Rattle.basics.specs.Places.{place_of}
+use Rattle.basics.proofs.NamePlaces.{place_absent}
 use Rattle.file_trees.specs.declared.decl_tree.DeclTree.TheVariants as declarations
 use Rattle.file_elab.specs.Programming.{program_with, RefusesSymbol}
 use Rattle.file_elab.specs.Programs.{RefusesName, most_symbols, Declares, declares_family, refuses_family_name, refuses_family_kind}

@@ -1,6 +1,6 @@
 use Rattle.std.proofs.Common.{◌≡◌, ℕ, Option, Some, None, arith, sym, ap, ◌∙◌}
 use Rattle.lf_definitions.specs.Signatures.{names_of}
-use Rattle.lf_terms.specs.Places.{place_of}
+use Rattle.basics.specs.Places.{place_of}
 use Rattle.file_elab.specs.Programs.{refuses_taken, refuses_many}
 use Rattle.elab_terms.proofs.ClosedScopes.{names_count}
 use Rattle.file_elab.proofs.symbols.symbol_name.Goals as goal

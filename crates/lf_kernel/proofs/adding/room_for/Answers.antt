@@ -1,6 +1,6 @@
 use Rattle.std.proofs.Common.{arith, sym, ◌∙◌}
 use Rattle.lf_definitions.specs.Signatures.{names_of}
-use Rattle.lf_terms.proofs.NamePlaces.{place_absent}
+use Rattle.basics.proofs.NamePlaces.{place_absent}
 use Rattle.lf_kernel.proofs.adding.room_for.Goals as goal
 
 pub returns-then-size-ge-LIMIT : goal.returns-then-size-ge-LIMIT

@@ -1,7 +1,7 @@
 use Rattle.std.proofs.Common.{Bool, IsTrue, sym, subst}
 use Rattle.std.specs.Prelude.{◌↔◌}
 use Rattle.rule_sets.specs.Refusals.{IsTaken}
-use Rattle.rule_sets.proofs.NamePlaces.{placed}
+use Rattle.basics.proofs.Membership.{placed}
 use Rattle.rule_sets.proofs.faults.is_taken.Goals as goal
 
 pub returns : goal.returns

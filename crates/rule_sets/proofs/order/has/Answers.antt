@@ -1,7 +1,7 @@
 use Rattle.std.proofs.Common.{◌↔◌, Bool, IsTrue, sym, ap, ◌∙◌, subst}
 use Rattle.std.specs.Prelude.{Contains}
-use Rattle.lf_terms.specs.Places.{place_of}
-use Rattle.rule_sets.proofs.NamePlaces.{placed}
+use Rattle.basics.specs.Places.{place_of}
+use Rattle.basics.proofs.Membership.{placed}
 use Rattle.rule_sets.proofs.order.has.Goals as goal
 
 pub returns : goal.returns

@@ -1,7 +1,7 @@
 use Rattle.std.proofs.Common.{◌≡◌, sym, ◌∙◌, subst, List, ℕ, take_all, ◌+◌, take}
 use Rattle.std.specs.Prelude.{None}
-use Rattle.lf_terms.specs.Places.{place_of}
-use Rattle.rule_sets.proofs.NamePlaces.{new_name}
+use Rattle.basics.specs.Places.{place_of}
+use Rattle.basics.proofs.Membership.{new_name}
 use Rattle.rule_sets.proofs.Tested.{failed}
 use Rattle.rule_sets.proofs.Sets.{AreNames, name_had, name_added, all_names}
 use Rattle.rule_sets.proofs.order.with_built_in.Goals as goal

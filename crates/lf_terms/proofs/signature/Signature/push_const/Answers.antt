@@ -1,5 +1,5 @@
 use Rattle.std.proofs.Common.{arith, ap, ◌∙◌, [], ◌∷◌, ◌++◌, length}
-use Rattle.lf_terms.specs.Places.{place_of}
+use Rattle.basics.specs.Places.{place_of}
 use Rattle.lf_terms.specs.declared.found.Found.TheVariants.{Const}
 use Rattle.lf_terms.proofs.SignatureEntries.{is_new_place, few_constants, count_constant_names, constant_added, keeps_constant}
 use Rattle.lf_terms.proofs.signature.Signature.push_const.Goals as goal

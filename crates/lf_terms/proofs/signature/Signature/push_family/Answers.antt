@@ -1,5 +1,5 @@
 use Rattle.std.proofs.Common.{arith, ap, ◌∙◌, [], ◌∷◌, ◌++◌, length}
-use Rattle.lf_terms.specs.Places.{place_of}
+use Rattle.basics.specs.Places.{place_of}
 use Rattle.lf_terms.specs.declared.found.Found.TheVariants.{Family}
 use Rattle.lf_terms.proofs.SignatureEntries.{is_new_place, few_families, count_family_names, family_added, keeps_family}
 use Rattle.lf_terms.proofs.signature.Signature.push_family.Goals as goal

@@ -1,7 +1,7 @@
 use Rattle.std.proofs.Common.{◌≡◌, ap, sym, ◌∙◌, List, ℕ, map, subst}
 use Rattle.std.specs.Prelude.{Contains, None}
-use Rattle.lf_terms.specs.Places.{place_of}
-use Rattle.rule_sets.proofs.NamePlaces.{new_name}
+use Rattle.basics.specs.Places.{place_of}
+use Rattle.basics.proofs.Membership.{new_name}
 use Rattle.rule_sets.proofs.book.RuleBook.append.Goals as goal
 
 pub add-requires : goal.add-requires

@@ -4,8 +4,8 @@ use Rattle.std.specs.Str.{bytes_eq}
 use Rattle.std.specs.List.{position, list_any}
 use Rattle.std.proofs.lemmas.List.{map-append}
 use Rattle.indexmap.specs.IndexSet.{insert_key}
-use Rattle.lf_terms.specs.Places.{place_of, IsNew}
-use Rattle.lf_terms.proofs.PlacesOfImages.{position-map, list_any-from_none}
+use Rattle.basics.specs.Places.{place_of, IsNew}
+use Rattle.basics.proofs.PlacesOfImages.{position-map, list_any-from_none}
 
 abbrev pub shown : List (Vec ℕ Global) → List (List ℕ)
 shown keys = map (λ key. key.items) keys

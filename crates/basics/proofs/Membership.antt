@@ -2,8 +2,8 @@
 use Rattle.std.proofs.Common.{◌≡◌, ◌↔◌, ℕ, IsTrue, List, Option, Some, None, refl, sym}
 use Rattle.std.specs.Prelude.{Contains, is_some, slice_get}
 use Rattle.std.proofs.lemmas.Option.{slice_get_within, get_or_from_slice_get}
-use Rattle.lf_terms.specs.Places.{place_of}
-use Rattle.lf_terms.proofs.NamePlaces.{place_found, place_absent}
+use Rattle.basics.specs.Places.{place_of}
+use Rattle.basics.proofs.NamePlaces.{place_found, place_absent}
 
 pub contained : (names : List (List ℕ)) (name : List ℕ) (p : ℕ) → place_of names name ≡ Some p → Contains names name
 contained names name p e =

@@ -1,7 +1,7 @@
 //! Lists of names that are found by a look-up and not by a scan.
 
 ghost use Rattle.std.specs.Prelude.{◌≡◌, ◌++◌, ℕ, List, [], ◌∷◌, OnOk, OnErr, length};
-ghost use Rattle.lf_terms.specs.Places.{place_of, IsNew};
+ghost use Rattle.basics.specs.Places.{place_of, IsNew};
 
 use crate::no_memory::NoMemory;
 use indexmap::IndexSet;

@@ -1,0 +1,4 @@
+pub mod PlacesOfImages
+pub mod Tables
+pub mod NamePlaces
+pub mod Membership
