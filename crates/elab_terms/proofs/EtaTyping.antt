@@ -11,7 +11,8 @@ use Rattle.lf_definitions.specs.ShapedGoals.{ShapedContext, shaped_empty, shaped
 use Rattle.lf_definitions.specs.Laws.{variables, KeepsTypes}
 use Rattle.lf_definitions.proofs.Uniqueness.{stays-becomes, stays_inj}
 use Rattle.lf_definitions.proofs.Renaming.{extended-next, each_head, same_head, rename_type-same_head, rename_spine-same_head, KeepsShapes, Shaped-rename, SubstitutedType-rename_type, SubstitutedSpine-rename_spine, renames, up-renames, SubstitutedSpine-renames}
-use Rattle.lf_definitions.proofs.Totality.{Fits, fits_stays, fits_becomes, Goes, Goes-more, Goes-stays, Goes-up, Goes-push, ShapedSpine-SubstitutedSpine}
+use Rattle.lf_definitions.specs.Replacements.{Fits, fits_stays, fits_becomes, Goes}
+use Rattle.lf_definitions.proofs.Totality.{Goes-more, Goes-stays, Goes-up, Goes-push, ShapedSpine-SubstitutedSpine}
 use Rattle.lf_definitions.proofs.Expansion.{rename_image-same_head, rename_image-rename_image, push_all-next_by, args_count-arity, Applied-lams, rename-eta, Substituted-eta_put}
 use Rattle.lf_definitions.proofs.Types.{shape_of-rename_type, shape_of-SubstitutedType, ShapedType-SubstitutedType}
 use Rattle.lf_definitions.proofs.Telescopes.{push_all-joined, arity-arrows, arguments-arrows, Goes-push_all, Goes-up_by, next_by-bound, next_by-constant, next_by-metavariable, under_all-next_by_length}

@@ -9,7 +9,8 @@ use Rattle.lf_definitions.specs.Signatures.{LfSignature, kinds_in, typing_in, Fo
 use Rattle.lf_definitions.specs.ShapedGoals.{ShapedContext, shaped_empty, shaped_entry, ShapedTyping, without_variables}
 use Rattle.lf_definitions.specs.Laws.{variables}
 use Rattle.lf_definitions.proofs.Renaming.{extended-next, each_head}
-use Rattle.lf_definitions.proofs.Totality.{Goes, Goes-more, Goes-stays, Goes-push}
+use Rattle.lf_definitions.specs.Replacements.{Goes}
+use Rattle.lf_definitions.proofs.Totality.{Goes-more, Goes-stays, Goes-push}
 use Rattle.lf_definitions.proofs.Types.{shape_of-SubstitutedType, ShapedType-SubstitutedType}
 use Rattle.lf_definitions.proofs.Typing.{ShapedType-Formed, Shaped-Typed, shaped_argument, shaped_result}
 use Rattle.lf_definitions.proofs.ShapedGoals.{ShapedTyping-head, ShapedTyping-family, ShapedContext-pis, shapes_of-under, ShapedSignature-FormedSignature, ShapedTyping-typing_in}

@@ -4,18 +4,11 @@ use Rattle.lf_definitions.specs.Syntax.{LfHead, bound, LfTerm, Spine, SimpleType
 use Rattle.lf_definitions.specs.Renaming.{next, raise}
 use Rattle.lf_definitions.specs.Shaping.{Scope, under, Shaped, shaped_lam, shaped_at, ShapedSpine, shaped_none, shaped_arg}
 use Rattle.lf_definitions.specs.Substitution.{Image, stays, becomes, rename_image, Replacement, up, push, Substituted, substituted_lam, substituted_stays, substituted_becomes, SubstitutedSpine, substituted_none, substituted_arg, Applied, applied_none, applied_arg}
+use Rattle.lf_definitions.specs.Replacements.{Then, then_stays, then_becomes, IsThen}
 use Rattle.lf_definitions.proofs.Uniqueness.{unique, stays-becomes, stays_inj, becomes_inj}
 use Rattle.lf_definitions.proofs.Renaming.{extended-next, each_head, same_head, rename-same_head, Substituted-rename, Substituted-stays}
-use Rattle.lf_definitions.proofs.Totality.{Fits, fits_stays, fits_becomes, Goes, Goes-more, Goes-stays, Goes-up, Goes-push, total, Shaped-Substituted, ShapedSpine-SubstitutedSpine}
-
--- what `τ` makes of an image
-pub data Then (τ : Replacement) : Image → Image → Type 0 where
-  then_stays : {k : LfHead} {i : Image} → τ k ≡ i → Then τ (stays k) i
-  then_becomes : {u r : LfTerm} → Substituted τ u r → Then τ (becomes u) (becomes r)
-
--- `ρ` does to each head what `σ` and then `τ` do.
-abbrev pub IsThen : Replacement → Replacement → Replacement → Type 0
-IsThen σ τ ρ = (h : LfHead) → Then τ (σ h) (ρ h)
+use Rattle.lf_definitions.specs.Replacements.{Fits, fits_stays, fits_becomes, Goes}
+use Rattle.lf_definitions.proofs.Totality.{Goes-more, Goes-stays, Goes-up, Goes-push, total, Shaped-Substituted, ShapedSpine-SubstitutedSpine}
 
 pub IsThen-before : (τ : Replacement) → IsThen stays τ τ
 IsThen-before τ h = then_stays refl

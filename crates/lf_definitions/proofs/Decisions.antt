@@ -7,7 +7,8 @@ use Rattle.lf_definitions.specs.Typing.{Typing, with_variable, Typed, typed_lam,
 use Rattle.lf_definitions.specs.Failures.{FailsTerm, fails_lam, fails_at, fails_in_body, fails_head, fails_count, fails_in_argument, fails_result, FailsSpine, fails_here, fails_later, FailsType, FailsTypeFrom, fails_binder, fails_rest, fails_family, fails_family_count, fails_family_argument, FailsContextFrom, fails_entry, fails_entries}
 use Rattle.lf_definitions.specs.ShapedGoals.{ShapedTyping, ShapedContext, shaped_entry}
 use Rattle.lf_definitions.specs.TypingLaws.{HoldsOrFails}
-use Rattle.lf_definitions.proofs.Totality.{Goes, Goes-stays, Goes-push, total_spine}
+use Rattle.lf_definitions.specs.Replacements.{Goes}
+use Rattle.lf_definitions.proofs.Totality.{Goes-stays, Goes-push, total_spine}
 use Rattle.lf_definitions.proofs.Telescopes.{Goes-push_all}
 use Rattle.lf_definitions.proofs.Types.{total_type, shape_of-SubstitutedType}
 use Rattle.lf_definitions.proofs.Typing.{Shaped-Typed, ShapedSpine-TypedSpine, ShapedType-Formed}

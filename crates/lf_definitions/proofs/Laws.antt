@@ -11,8 +11,10 @@ use Rattle.lf_definitions.proofs.Uniqueness.{unique}
 use Rattle.lf_definitions.proofs.Typing.{Shaped-Typed, ShapedType-Formed}
 use Rattle.lf_definitions.proofs.Weakening.{Typed-rename}
 use Rattle.lf_definitions.proofs.Renaming.{rename-rename, rename-same_head, Shaped-rename, Substituted-rename, term_size-rename, rename_inj}
-use Rattle.lf_definitions.proofs.Totality.{Goes, Goes-stays, total, ShapedSpine-SubstitutedSpine}
-use Rattle.lf_definitions.proofs.Composition.{IsThen, IsThen-before, IsThen-after}
+use Rattle.lf_definitions.specs.Replacements.{Goes}
+use Rattle.lf_definitions.proofs.Totality.{Goes-stays, total, ShapedSpine-SubstitutedSpine}
+use Rattle.lf_definitions.specs.Replacements.{IsThen}
+use Rattle.lf_definitions.proofs.Composition.{IsThen-before, IsThen-after}
 use Rattle.lf_definitions.proofs.Expansion.{Shaped-eta, Alike, alike_stays, alike_eta, unit, Substituted-eta_put}
 use Rattle.lf_definitions.proofs.Telescopes.{up_by-length-append, push_all-joined, args_count-length, Shaped-arg_at, Goes-push_all, Goes-up_by, IsThen-up_by, IsThen-push_all_before, IsThen-push_all_after, composes_iff, up_by-bound_small, up_by-bound, push_all-bound, push_all-bound_greater, push_all-constant, push_all-metavariable, up_by-constant, up_by-metavariable, Shaped-raise_by, own_variables_unit, next_by-bound, next_by-constant, next_by-metavariable}
 

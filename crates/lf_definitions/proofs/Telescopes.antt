@@ -8,8 +8,10 @@ use Rattle.lf_definitions.specs.Substitution.{stays, becomes, rename_image, Repl
 use Rattle.lf_definitions.specs.Expansion.{own_variables}
 use Rattle.lf_definitions.proofs.Uniqueness.{unique}
 use Rattle.lf_definitions.proofs.Renaming.{extended-next, same_head, lifted-same_head, rename-same_head, KeepsShapes, KeepsShapes-lifted, Follows, Follows-up, Substituted-rename, Shaped-rename}
-use Rattle.lf_definitions.proofs.Totality.{Goes, Goes-up, Goes-push, total}
-use Rattle.lf_definitions.proofs.Composition.{IsThen, IsThen-up, IsThen-push_before, IsThen-push_after, composes}
+use Rattle.lf_definitions.specs.Replacements.{Goes}
+use Rattle.lf_definitions.proofs.Totality.{Goes-up, Goes-push, total}
+use Rattle.lf_definitions.specs.Replacements.{IsThen}
+use Rattle.lf_definitions.proofs.Composition.{IsThen-up, IsThen-push_before, IsThen-push_after, composes}
 use Rattle.lf_definitions.proofs.Expansion.{rename_image-same_head, up_by-next_by, push_all-next_by, IsAlike, IsAlike-up, Alike, alike_stays, own_alike, unit}
 
 pub under_all-append : (xs ys : List SimpleType) (Γ : Scope) → under_all (xs ++ ys) Γ ≡ under_all ys (under_all xs Γ)

@@ -4,18 +4,10 @@ use Rattle.lf_definitions.specs.Syntax.{LfHead, bound, LfTerm, lam, at, Spine, n
 use Rattle.lf_definitions.specs.Renaming.{next}
 use Rattle.lf_definitions.specs.Shaping.{Scope, under, Shaped, shaped_lam, shaped_at, ShapedSpine, shaped_none, shaped_arg}
 use Rattle.lf_definitions.specs.Substitution.{Image, stays, becomes, rename_image, Replacement, up, push, Substituted, substituted_lam, substituted_stays, substituted_becomes, SubstitutedSpine, substituted_none, substituted_arg, Applied, applied_none, applied_arg}
+use Rattle.lf_definitions.specs.Replacements.{Fits, fits_stays, fits_becomes, Goes}
 use Rattle.lf_definitions.proofs.Uniqueness.{unique, unique_spine}
 use Rattle.lf_definitions.proofs.Renaming.{extended-next, each_head, Shaped-raise}
 use Rattle.lf_definitions.proofs.Options.{Some-Some}
-
--- An image has the shape of its head. Where it is a term, the shape is smaller than a bound.
-pub data Fits : Scope → ℕ → Image → SimpleType → Type 0 where
-  fits_stays : {Δ : Scope} {p : ℕ} {k : LfHead} {s : SimpleType} → Δ k ≡ Some s → Fits Δ p (stays k) s
-  fits_becomes : {Δ : Scope} {p : ℕ} {u : LfTerm} {s : SimpleType} → Shaped Δ u s → shape_size s < p → Fits Δ p (becomes u) s
-
--- A replacement goes from one scope to another where the image of each head fits its shape.
-abbrev pub Goes : ℕ → Scope → Scope → Replacement → Type 0
-Goes p Γ Δ σ = (h : LfHead) (s : SimpleType) → Γ h ≡ Some s → Fits Δ p (σ h) s
 
 pub Fits-next : {Δ : Scope} {p : ℕ} {i : Image} {s : SimpleType} (a : SimpleType) → Fits Δ p i s → Fits (under a Δ) p (rename_image next i) s
 Fits-next {Δ} a (fits_stays {k = k} e) = fits_stays (extended-next (Some a) Δ k ∙ e)

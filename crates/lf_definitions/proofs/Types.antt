@@ -6,8 +6,10 @@ use Rattle.lf_definitions.specs.Shaping.{Scope, under, ShapedType, shaped_pi, sh
 use Rattle.lf_definitions.specs.Substitution.{Replacement, up, SubstitutedType, substituted_pi, substituted_family}
 use Rattle.lf_definitions.proofs.Uniqueness.{unique_type}
 use Rattle.lf_definitions.proofs.Renaming.{KeepsShapes, KeepsShapes-lifted, ShapedSpine-rename_spine}
-use Rattle.lf_definitions.proofs.Totality.{Goes, Goes-up, total_spine}
-use Rattle.lf_definitions.proofs.Composition.{IsThen, IsThen-up, composes_spine}
+use Rattle.lf_definitions.specs.Replacements.{Goes}
+use Rattle.lf_definitions.proofs.Totality.{Goes-up, total_spine}
+use Rattle.lf_definitions.specs.Replacements.{IsThen}
+use Rattle.lf_definitions.proofs.Composition.{IsThen-up, composes_spine}
 
 -- The shape of a type is that of its binders alone.
 pub shape_of-rename_type : (a : LfType) (ξ : Renaming) → shape_of (rename_type ξ a) ≡ shape_of a

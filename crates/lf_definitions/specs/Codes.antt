@@ -2,7 +2,7 @@
 use Rattle.std.specs.Prelude.{◌≡◌, ℕ, zero, suc, List, [], ◌∷◌}
 use Rattle.std.specs.Coded.{Coded, code_by, coded×, coded_ℕ, coded_list}
 use mathlib.Core.Path.{refl, ap, ap₂, ◌∙◌}
-use Rattle.lf_definitions.specs.Syntax.{LfHead, bound, constant, metavariable, LfTerm, lam, at, Spine, no_args, arg, SimpleType, base, arrow, LfType, pi, family, LfAtom, atomic}
+use Rattle.lf_definitions.specs.Syntax.{LfHead, bound, constant, metavariable, LfTerm, lam, at, Spine, no_args, arg, SimpleType, base, arrow, LfType, pi, family, atomic, conclusion_atom}
 use Rattle.lf_definitions.specs.Typing.{LfGoal}
 use Rattle.lf_definitions.specs.Signatures.{LfEntry, family_entry, constant_entry, LfSignature}
 
@@ -132,16 +132,12 @@ abbrev pub numbered_shapes_code : Coded (List (ℕ × SimpleType))
 numbered_shapes_code = coded_list (coded× coded_ℕ shape_code)
 
 -- goals
-abbrev atom_in : LfType → LfAtom
-atom_in (pi a b) = atom_in b
-atom_in (family f args) = record { atom_family = f; atom_args = args }
-
 abbrev goal_parts : LfGoal → ℕ × List LfType
 goal_parts g = (g.id, atomic g.target ∷ g.context)
 
 abbrev parts_goal : ℕ × List LfType → LfGoal
-parts_goal (id, []) = record { id = id; context = []; target = atom_in (family 0 no_args) }
-parts_goal (id, target ∷ context) = record { id = id; context = context; target = atom_in target }
+parts_goal (id, []) = record { id = id; context = []; target = conclusion_atom (family 0 no_args) }
+parts_goal (id, target ∷ context) = record { id = id; context = context; target = conclusion_atom target }
 
 abbrev pub goals_code : Coded (List LfGoal)
 goals_code = coded_list (code_by (ℕ × List LfType) (coded× coded_ℕ types_code) goal_parts parts_goal (λ _. refl))

@@ -3,10 +3,13 @@ pub mod Renaming
 pub mod Shaping
 pub mod Substitution
 pub mod Expansion
+pub mod Replacements
 pub mod Typing
 pub mod Signatures
 pub mod Failures
 pub mod Occurrence
+pub mod Instantiation
+pub mod GoalLists
 pub mod ShapedGoals
 pub mod Laws
 pub mod TypingLaws

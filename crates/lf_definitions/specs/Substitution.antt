@@ -1,6 +1,6 @@
 -- Hereditary substitution, as a relation.
-use Rattle.std.specs.Prelude.{◌≡◌, ℕ, zero, suc}
-use Rattle.lf_definitions.specs.Syntax.{LfHead, bound, LfTerm, lam, at, Spine, no_args, arg, LfType, pi, family}
+use Rattle.std.specs.Prelude.{◌≡◌, ℕ, zero, suc, [], ◌∷◌}
+use Rattle.lf_definitions.specs.Syntax.{LfHead, bound, LfTerm, lam, at, Spine, no_args, arg, LfType, pi, family, Context}
 use Rattle.lf_definitions.specs.Renaming.{next, extended, Renaming, rename}
 
 -- A head stays, under a number that may be another, or a term is put in its place.
@@ -66,3 +66,9 @@ SubstitutesSpine sub local = SubstitutedSpine (up_by local (push_all sub stays))
 pub data SubstitutedType : Replacement → LfType → LfType → Type 0 where
   substituted_pi : {σ : Replacement} {a b c d : LfType} → SubstitutedType σ a c → SubstitutedType (up σ) b d → SubstitutedType σ (pi a b) (pi c d)
   substituted_family : {σ : Replacement} {f : ℕ} {ts vs : Spine} → SubstitutedSpine σ ts vs → SubstitutedType σ (family f ts) (family f vs)
+
+-- in a context, or a kind, each of whose entries is in the scope of those before it
+pub data SubstitutedContext : Replacement → Context → Context → Type 0 where
+  substituted_empty : {σ : Replacement} → SubstitutedContext σ [] []
+  substituted_entry : {σ : Replacement} {a c : LfType} {rest results : Context} → SubstitutedType σ a c → SubstitutedContext (up σ) rest results →
+      SubstitutedContext σ (a ∷ rest) (c ∷ results)

@@ -52,7 +52,17 @@ abbrev pub arrows : List SimpleType → SimpleType → SimpleType
 arrows [] end = end
 arrows (a ∷ rest) end = arrow a (arrows rest end)
 
--- the family that a type ends in
+-- the binders of a type
+abbrev pub binders_of : LfType → List LfType
+binders_of (pi a b) = a ∷ binders_of b
+binders_of (family f args) = []
+
+-- the atom that it ends in, under them
+abbrev pub conclusion_atom : LfType → LfAtom
+conclusion_atom (pi a b) = conclusion_atom b
+conclusion_atom (family f args) = record { atom_family = f; atom_args = args }
+
+-- the family of that
 abbrev pub conclusion : LfType → ℕ
 conclusion (pi a b) = conclusion b
 conclusion (family f args) = f

@@ -6,7 +6,7 @@ use Rattle.lf_definitions.specs.Shaping.{Scope, under_all, ShapedType, ShapedLis
 use Rattle.lf_definitions.specs.Substitution.{stays, push_all, SubstitutedType}
 use Rattle.lf_definitions.specs.Typing.{Typing, shapes_of}
 use Rattle.lf_definitions.specs.ShapedGoals.{ShapedContext, shaped_entry}
-use Rattle.lf_definitions.proofs.Totality.{Goes, fits_stays}
+use Rattle.lf_definitions.specs.Replacements.{Goes, fits_stays}
 use Rattle.lf_definitions.proofs.Telescopes.{Goes-push_all}
 use Rattle.lf_definitions.proofs.Types.{shape_of-rename_type, ShapedType-SubstitutedType}
 use Rattle.lf_definitions.proofs.Typing.{ShapedSpine-TypedSpine}

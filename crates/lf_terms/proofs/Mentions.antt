@@ -229,8 +229,8 @@ with_binder A M N m a b whole is before here =
         | inr o ↦ elim (binder_occurs m a b (subst Q is o)) [ inl p ↦ inl (here.1 (inr (subst P (sym (zero-add m)) p))) | inr q ↦ inr q ]
       ],
       λ s. before.1 (elim s [
-        | inl n ↦ elim (here.0 n) [ inl y ↦ inl y | inr p ↦ inr (subst Q (sym is) (occurs_binder m a b (subst P (zero-add m) p))) ]
-        | inr q ↦ inr (subst Q (sym is) (occurs_rest m a b q))
+        | inl n ↦ elim (here.0 n) [ inl y ↦ inl y | inr p ↦ inr (subst Q (sym is) (occurs_binder (bound m) a b (subst P (zero-add m) p))) ]
+        | inr q ↦ inr (subst Q (sym is) (occurs_rest (bound m) a b q))
       ]),
     )
 
@@ -282,6 +282,6 @@ marks_end items f args i marks new past within so_far more =
     let here = more.marked place number (sum ∙ sym so_far.as_many) in
     let P : ℕ → Type 0 = λ k. OccursSpine k args in
     let R : LfType → Type 0 = λ c. OccursType number c in (
-      λ m. before.1 (elim (here.0 m) [ inl y ↦ inl y | inr o ↦ inr (subst R (sym none) (occurs_family number f args (subst P (zero-add number) o))) ]),
+      λ m. before.1 (elim (here.0 m) [ inl y ↦ inl y | inr o ↦ inr (subst R (sym none) (occurs_family (bound number) f args (subst P (zero-add number) o))) ]),
       λ o. here.1 (elim (before.0 o) [ inl y ↦ inl y | inr p ↦ inr (subst P (sym (zero-add number)) (family_occurs number f args (subst R none p))) ]),
     ))

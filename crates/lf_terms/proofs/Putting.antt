@@ -7,7 +7,8 @@ use Rattle.lf_definitions.specs.Shaping.{Scope, under, under_all, Shaped, shaped
 use Rattle.lf_definitions.specs.Substitution.{stays, becomes, rename_image, Replacement, up, up_by, push, push_all, Substituted, substituted_lam, substituted_stays, substituted_becomes, SubstitutedSpine, substituted_none, substituted_arg, Applied}
 use Rattle.lf_definitions.proofs.Uniqueness.{unique_spine}
 use Rattle.lf_definitions.proofs.Renaming.{extended-next, each_head, same_head, rename-same_head, Substituted-rename}
-use Rattle.lf_definitions.proofs.Totality.{fits_stays, Goes, Shaped-Substituted, ShapedSpine-SubstitutedSpine}
+use Rattle.lf_definitions.specs.Replacements.{fits_stays, Goes}
+use Rattle.lf_definitions.proofs.Totality.{Shaped-Substituted, ShapedSpine-SubstitutedSpine}
 use Rattle.lf_definitions.proofs.Expansion.{rename_image-same_head, stripped, args_count-arity, Applied-lams, rename-lams}
 use Rattle.lf_definitions.proofs.Telescopes.{under_all-append, args_count-length, arguments-arrows, Shaped-arg_at, Goes-push_all, Goes-up_by, next_by-bound, next_by-constant, next_by-metavariable, up_by-bound_small, up_by-bound, up_by-constant, up_by-metavariable, push_all-bound, push_all-bound_greater, push_all-constant, push_all-metavariable, under_all-next_by_length}
 use Rattle.lf_definitions.proofs.Options.{Some-Some}

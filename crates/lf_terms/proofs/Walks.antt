@@ -6,7 +6,8 @@ use Rattle.lf_definitions.specs.Renaming.{next, Renaming, lifted, rename, rename
 use Rattle.lf_definitions.specs.Shaping.{Scope, under, Shaped, shaped_lam, shaped_at, ShapedSpine, shaped_none, shaped_arg}
 use Rattle.lf_definitions.specs.Substitution.{Image, stays, becomes, rename_image, Replacement, up, push, push_all, Substituted, substituted_lam, substituted_stays, substituted_becomes, SubstitutedSpine, substituted_none, substituted_arg, Applied, applied_none, applied_arg}
 use Rattle.lf_definitions.proofs.Renaming.{extended-next, each_head}
-use Rattle.lf_definitions.proofs.Totality.{Fits, fits_stays, fits_becomes, Goes, Goes-more, Goes-stays, Goes-up, Goes-push, ShapedSpine-SubstitutedSpine}
+use Rattle.lf_definitions.specs.Replacements.{Fits, fits_stays, fits_becomes, Goes}
+use Rattle.lf_definitions.proofs.Totality.{Goes-more, Goes-stays, Goes-up, Goes-push, ShapedSpine-SubstitutedSpine}
 
 -- the cost and the result
 abbrev pub Outcome : Type 0
