@@ -7,10 +7,11 @@ use Rattle.aesop_session.specs.declared.status.Status.{Status}
 use Rattle.aesop_session.specs.declared.status.Status.TheVariants.{AllProved, SomeStuck, ReadFault, WriteFault}
 use Rattle.aesop_session.specs.declared.refusal.Refusal.{Refusal}
 use Rattle.aesop_session.specs.Commands.{prove_words}
-use Rattle.aesop_session.specs.Documents.{Verdict, proved, stuck, status_of, IsDocument, WritesDocument, WritesDocumentFront}
+use Rattle.aesop_session.specs.Documents.{Verdict, proved, stuck, status_of, IsDocument, WritesDocument, WritesDocumentPrefix}
 use Rattle.aesop_session.specs.Refusals.{line_of}
-use Rattle.aesop_session.specs.Serving.{TakesSmall, TakesRefused}
-use Rattle.aesop_session.specs.Answers.{most_bytes, AnswersFile, RefusesFile, IsAnswer, TakesFront, Answered}
+use Rattle.aesop_session.specs.Inputs.{TakesSmall, TakesRefused}
+use Rattle.basics.specs.Limits.{most_input}
+use Rattle.aesop_session.specs.Answers.{AnswersFile, RefusesFile, IsAnswer, TakesPrefix, Answered}
 
 two_statuses : (verdicts : List Verdict) → (status_of verdicts ≡ AllProved) ⊎ (status_of verdicts ≡ SomeStuck)
 two_statuses [] = inl refl
@@ -47,9 +48,9 @@ Answered-document left later held after small status takes w =
       | inr some ↦ subst (Answered prove_words left later held after) (sym some) (w.0, subst (λ s. IsAnswer prove_words left later s w.0) some (is_answer left later small status w.0 takes w.1), w.2)
     ]
 
--- a front of a document is a front of the answer of its status
-pub TakesFront-document : (left later held after : Option (List ℕ)) (small : SmallProgram) → TakesSmall left later small → WritesDocumentFront small held after → TakesFront prove_words left later held after
-TakesFront-document left later held after small takes w = (w.0, w.1, is_answer left later small w.0 w.1 takes w.2, w.3)
+-- a prefix of a document is a prefix of the answer of its status
+pub TakesPrefix-document : (left later held after : Option (List ℕ)) (small : SmallProgram) → TakesSmall left later small → WritesDocumentPrefix small held after → TakesPrefix prove_words left later held after
+TakesPrefix-document left later held after small takes w = (w.0, w.1, is_answer left later small w.0 w.1 takes w.2, w.3)
 
 pub not_read_fault : (held after : Option (List ℕ)) (small : SmallProgram) (status : Status) → WritesDocument small held after status → status ≡ ReadFault → ⊥
 not_read_fault held after small status w e = elim (IsDocument-status small status w.0 w.1) [ inl all ↦ cc | inr some ↦ cc ]
@@ -58,10 +59,10 @@ pub not_write_fault : (held after : Option (List ℕ)) (small : SmallProgram) (s
 not_write_fault held after small status w e = elim (IsDocument-status small status w.0 w.1) [ inl all ↦ cc | inr some ↦ cc ]
 
 -- where a document is begun, what was read is at most the limit
-pub TakesSmall-at_most : (left later : Option (List ℕ)) (small : SmallProgram) → TakesSmall left later small → TakesAtMost most_bytes left later
+pub TakesSmall-at_most : (left later : Option (List ℕ)) (small : SmallProgram) → TakesSmall left later small → TakesAtMost most_input left later
 TakesSmall-at_most left later small takes = (takes.1.0, takes.1.2, takes.1.1.0)
 
-pub TakesRefused-at_most : (left later : Option (List ℕ)) (refusal : Refusal) → TakesRefused left later refusal → TakesAtMost most_bytes left later
+pub TakesRefused-at_most : (left later : Option (List ℕ)) (refusal : Refusal) → TakesRefused left later refusal → TakesAtMost most_input left later
 TakesRefused-at_most left later refusal takes = (takes.0, takes.2, takes.1.0)
 
 -- the line of a refusal is the answer of what is refused

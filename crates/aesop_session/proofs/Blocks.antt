@@ -6,10 +6,10 @@ use Rattle.lf_terms.specs.declared.term.Term.{Term}
 use Rattle.lf_terms.specs.Terms.{term_of}
 use Rattle.small_programs.specs.declared.small.SmallProgram.{SmallProgram}
 use Rattle.small_programs.specs.declared.small.SmallTheorem.{SmallTheorem}
-use Rattle.small_programs.specs.Names.{constant_names, rule_names}
+use Rattle.small_programs.specs.Names.{small_constant_names, small_rule_names}
 use Rattle.small_search.specs.declared.closing.Closing.{Closing}
 use Rattle.small_search.specs.Closings.{Closings, closing_of, IsClosedAt, IsTable}
-use Rattle.small_answers.specs.Texts.{term_text, script_text}
+use Rattle.small_answers.specs.Texts.{closed_term_text, script_text}
 use Rattle.small_answers.specs.Chosen.{GivesTerm, IsRuleNumber}
 use Rattle.small_answers.specs.Additions.{AddsNumbers, AddsTerm}
 use Rattle.small_answers.specs.Copies.{IsGiven}
@@ -20,7 +20,7 @@ use Rattle.aesop_session.specs.Documents.{proved_text, stuck_text, IsProvedBlock
 -- what a table gives for the theorem's family makes a right block
 pub proved_block : (program : SmallProgram) (theorem : SmallTheorem) (closings : List (Option Closing)) (numbers : List ℕ) (term : LfTerm) → GivesTerm program closings theorem.family numbers term → (text : List ℕ) × IsProvedBlock program theorem text
 proved_block program theorem closings numbers term gives = (
-  proved_text theorem.name (term_text (constant_names program.constants) term) (script_text (rule_names program.rules) numbers),
+  proved_text theorem.name (closed_term_text (small_constant_names program.constants) term) (script_text (small_rule_names program.rules) numbers),
   record {
     numbers = numbers;
     term = term;
@@ -41,16 +41,16 @@ block_parts out a theorem p n t term script = simp append_assoc
 
 pub AddsProvedBlock-parts : (program : SmallProgram) (theorem : SmallTheorem) (closings : List (Option Closing)) (old a b c d e new start numbers : List ℕ) → start ≡ [] →
     AddsNumbers program closings (theorem.family ∷ []) start numbers → a ≡ old ++ codes "theorem " → b ≡ a ++ theorem.name → c ≡ b ++ (codes " proved" ++ (10 ∷ []) ++ codes "term ") →
-    AddsTerm program closings theorem.family c d → e ≡ d ++ 10 ∷ [] → new ≡ e ++ script_text (rule_names program.rules) numbers → AddsProvedBlock program theorem old new
+    AddsTerm program closings theorem.family c d → e ≡ d ++ 10 ∷ [] → new ≡ e ++ script_text (small_rule_names program.rules) numbers → AddsProvedBlock program theorem old new
 unfolding proved_block
 AddsProvedBlock-parts program theorem closings old a b c d e new start numbers empty steps p q r adds s t =
     let block = proved_block program theorem closings adds.numbers adds.term adds.gives in
     let same = GivesTerms-one program closings (theorem.family ∷ []) steps.numbers adds.numbers steps.terms (arg adds.term no_args) steps.gives adds.gives in
     let numbers_are : numbers ≡ adds.numbers = steps.added ∙ ap (λ (ks : List ℕ). ks ++ steps.numbers) empty ∙ same.numbers in
-    let term = term_text (constant_names program.constants) adds.term in
-    let script = script_text (rule_names program.rules) adds.numbers in
+    let term = closed_term_text (small_constant_names program.constants) adds.term in
+    let script = script_text (small_rule_names program.rules) adds.numbers in
     let lines : new ≡ (((((old ++ codes "theorem ") ++ theorem.name) ++ (codes " proved" ++ (10 ∷ []) ++ codes "term ")) ++ term) ++ 10 ∷ []) ++ script =
-    t ∙ ap (λ (ks : List ℕ). e ++ script_text (rule_names program.rules) ks) numbers_are
+    t ∙ ap (λ (ks : List ℕ). e ++ script_text (small_rule_names program.rules) ks) numbers_are
     ∙ ap (λ (x : List ℕ). x ++ script) (s ∙ ap (λ (x : List ℕ). x ++ 10 ∷ []) (adds.added ∙ ap (λ (x : List ℕ). x ++ term)
     (r ∙ ap (λ (x : List ℕ). x ++ (codes " proved" ++ (10 ∷ []) ++ codes "term ")) (q ∙ ap (λ (x : List ℕ). x ++ theorem.name) p)))) in
     (block.0, block.1, lines ∙ block_parts old (codes "theorem ") theorem.name (codes " proved") (10 ∷ []) (codes "term ") term script)

@@ -1,30 +1,30 @@
--- What was written of a right document is a front of one: what is left to write is always there.
+-- What was written of a right document is a prefix of one: what is left to write is always there.
 use Rattle.std.proofs.Common.{◌≡◌, ℕ, ◌+◌, ◌<◌, List, [], ◌∷◌, ◌++◌, length, refl, sym, subst, ap, ◌∙◌, Some, None, Option, get_or, append_assoc, append-nil, Bool, true, false, cond, take, drop}
 use Rattle.std.specs.Io.KnownBytes.{Appends}
 use Rattle.std.proofs.KnownBytes.{Appends-nil, Appends-trans}
 use Rattle.std.proofs.lemmas.List.{take_more, take-append-drop}
-use Rattle.run_io.specs.Moves.{AppendsFront}
+use Rattle.run_io.specs.Moves.{AppendsPrefix}
 use Rattle.small_programs.specs.declared.small.SmallProgram.{SmallProgram}
 use Rattle.small_programs.specs.declared.small.SmallTheorem.{SmallTheorem}
 use Rattle.aesop_session.specs.declared.status.Status.{Status}
 use Rattle.aesop_session.specs.declared.status.Status.TheVariants.{AllProved, SomeStuck}
 use Rattle.small_search.specs.declared.closing.Closing.{Closing}
 use Rattle.small_search.specs.Closings.{Closings, closing_of, IsTable}
-use Rattle.aesop_session.specs.Documents.{Verdict, proved, stuck, verdict_of, stuck_text, IsBlock, AreBlocks, nothing, next, status_of, first_line, last_line, WritesBlock, WritesBlockFront, WritesBlocks, WritesBlocksFront, WritesDocument, WritesDocumentFront}
+use Rattle.aesop_session.specs.Documents.{Verdict, proved, stuck, verdict_of, stuck_text, IsBlock, AreBlocks, nothing, next, status_of, first_line, last_line, WritesBlock, WritesBlockPrefix, WritesBlocks, WritesBlocksPrefix, WritesDocument, WritesDocumentPrefix}
 use Rattle.small_answers.proofs.TableTerms.{GivesTerm-closed}
 use Rattle.aesop_session.proofs.Blocks.{proved_block, stuck_block}
 
--- ---- fronts
+-- ---- prefixes
 
-pub AppendsFront-nothing : (held : Option (List ℕ)) (text : List ℕ) → AppendsFront held held text
-AppendsFront-nothing held text = ([], (text, refl), Appends-nil held)
+pub AppendsPrefix-nothing : (held : Option (List ℕ)) (text : List ℕ) → AppendsPrefix held held text
+AppendsPrefix-nothing held text = ([], (text, refl), Appends-nil held)
 
-pub AppendsFront-more : (held after : Option (List ℕ)) (text more : List ℕ) → AppendsFront held after text → AppendsFront held after (text ++ more)
-AppendsFront-more held after text more f =
+pub AppendsPrefix-more : (held after : Option (List ℕ)) (text more : List ℕ) → AppendsPrefix held after text → AppendsPrefix held after (text ++ more)
+AppendsPrefix-more held after text more f =
     (f.0, (f.1.0 ++ more, sym (append_assoc f.0 f.1.0 more) ∙ ap (λ (t : List ℕ). t ++ more) f.1.1), f.2)
 
-pub AppendsFront-after : (held middle after : Option (List ℕ)) (done text : List ℕ) → Appends held middle done → AppendsFront middle after text → AppendsFront held after (done ++ text)
-AppendsFront-after held middle after done text a f =
+pub AppendsPrefix-after : (held middle after : Option (List ℕ)) (done text : List ℕ) → Appends held middle done → AppendsPrefix middle after text → AppendsPrefix held after (done ++ text)
+AppendsPrefix-after held middle after done text a f =
     (done ++ f.0, (f.1.0, append_assoc done f.0 f.1.0 ∙ ap (λ (t : List ℕ). done ++ t) f.1.1), Appends-trans held middle after done f.0 a f.2)
 
 -- ---- blocks that are left to write
@@ -82,18 +82,18 @@ WritesBlocks-push program ts t held middle after status more is_proved w b is = 
   taken = Appends-trans held middle after w.blocks b.0 w.taken b.2;
 }
 
--- a front of one more block is a front of all of them
-pub WritesBlocksFront-at : (program : SmallProgram) (table : Closings) (ts us all : List SmallTheorem) (t : SmallTheorem) (held middle after : Option (List ℕ)) (status : Status) →
+-- a prefix of one more block is a prefix of all of them
+pub WritesBlocksPrefix-at : (program : SmallProgram) (table : Closings) (ts us all : List SmallTheorem) (t : SmallTheorem) (held middle after : Option (List ℕ)) (status : Status) →
     IsTable program table → (ts ++ t ∷ []) ++ us ≡ all →
-    WritesBlocks program ts held middle status → WritesBlockFront program t middle after → WritesBlocksFront program all held after
-WritesBlocksFront-at program table ts us all t held middle after status is_table parts w f =
+    WritesBlocks program ts held middle status → WritesBlockPrefix program t middle after → WritesBlocksPrefix program all held after
+WritesBlocksPrefix-at program table ts us all t held middle after status is_table parts w f =
     let rest = right_blocks program table us is_table in
     let so_far = AreBlocks-append program ts (t ∷ []) w.verdicts (f.0 ∷ []) w.blocks f.1 w.are_blocks (AreBlocks-one program t f.0 f.1 f.2) in (
       (w.verdicts ++ f.0 ∷ []) ++ rest.0,
       (w.blocks ++ f.1) ++ rest.1,
       subst (λ theorems. AreBlocks program theorems ((w.verdicts ++ f.0 ∷ []) ++ rest.0) ((w.blocks ++ f.1) ++ rest.1)) parts
           (AreBlocks-append program (ts ++ t ∷ []) us (w.verdicts ++ f.0 ∷ []) rest.0 (w.blocks ++ f.1) rest.1 so_far rest.2),
-      AppendsFront-more held after (w.blocks ++ f.1) rest.1 (AppendsFront-after held middle after w.blocks f.1 w.taken f.3),
+      AppendsPrefix-more held after (w.blocks ++ f.1) rest.1 (AppendsPrefix-after held middle after w.blocks f.1 w.taken f.3),
     )
 
 -- the list up to a place, one more, and the rest
@@ -113,30 +113,30 @@ WritesDocument-whole program held first middle after status a w z = (
   Appends-trans held middle after (first_line ++ w.blocks) last_line (Appends-trans held first middle first_line w.blocks a w.taken) z,
 )
 
-pub WritesDocumentFront-first : (program : SmallProgram) (table : Closings) (held after : Option (List ℕ)) → IsTable program table →
-    AppendsFront held after first_line → WritesDocumentFront program held after
-WritesDocumentFront-first program table held after is_table f =
+pub WritesDocumentPrefix-first : (program : SmallProgram) (table : Closings) (held after : Option (List ℕ)) → IsTable program table →
+    AppendsPrefix held after first_line → WritesDocumentPrefix program held after
+WritesDocumentPrefix-first program table held after is_table f =
     let blocks = right_blocks program table program.theorems is_table in (
       status_of blocks.0,
       (first_line ++ blocks.1) ++ last_line,
       record { verdicts = blocks.0; blocks = blocks.1; are_blocks = blocks.2; text_is = refl; status_is = refl },
-      AppendsFront-more held after (first_line ++ blocks.1) last_line (AppendsFront-more held after first_line blocks.1 f),
+      AppendsPrefix-more held after (first_line ++ blocks.1) last_line (AppendsPrefix-more held after first_line blocks.1 f),
     )
 
-pub WritesDocumentFront-blocks : (program : SmallProgram) (held first after : Option (List ℕ)) →
-    Appends held first first_line → WritesBlocksFront program program.theorems first after → WritesDocumentFront program held after
-WritesDocumentFront-blocks program held first after a f = (
+pub WritesDocumentPrefix-blocks : (program : SmallProgram) (held first after : Option (List ℕ)) →
+    Appends held first first_line → WritesBlocksPrefix program program.theorems first after → WritesDocumentPrefix program held after
+WritesDocumentPrefix-blocks program held first after a f = (
   status_of f.0,
   (first_line ++ f.1) ++ last_line,
   record { verdicts = f.0; blocks = f.1; are_blocks = f.2; text_is = refl; status_is = refl },
-  AppendsFront-more held after (first_line ++ f.1) last_line (AppendsFront-after held first after first_line f.1 a f.3),
+  AppendsPrefix-more held after (first_line ++ f.1) last_line (AppendsPrefix-after held first after first_line f.1 a f.3),
 )
 
-pub WritesDocumentFront-last : (program : SmallProgram) (held first middle after : Option (List ℕ)) (status : Status) →
-    Appends held first first_line → WritesBlocks program program.theorems first middle status → AppendsFront middle after last_line → WritesDocumentFront program held after
-WritesDocumentFront-last program held first middle after status a w z = (
+pub WritesDocumentPrefix-last : (program : SmallProgram) (held first middle after : Option (List ℕ)) (status : Status) →
+    Appends held first first_line → WritesBlocks program program.theorems first middle status → AppendsPrefix middle after last_line → WritesDocumentPrefix program held after
+WritesDocumentPrefix-last program held first middle after status a w z = (
   status,
   (first_line ++ w.blocks) ++ last_line,
   record { verdicts = w.verdicts; blocks = w.blocks; are_blocks = w.are_blocks; text_is = refl; status_is = w.status_is },
-  AppendsFront-after held middle after (first_line ++ w.blocks) last_line (Appends-trans held first middle first_line w.blocks a w.taken) z,
+  AppendsPrefix-after held middle after (first_line ++ w.blocks) last_line (Appends-trans held first middle first_line w.blocks a w.taken) z,
 )

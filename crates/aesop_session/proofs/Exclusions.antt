@@ -5,8 +5,8 @@ use Rattle.lex_text.specs.declared.token.Token.{Token}
 use Rattle.lex_text.specs.Tokens.{bad_character, long_name}
 use Rattle.lex_text.proofs.Unique.{TokensOf-unique, TokensOf-not_wrong, TokensOf-not_not_utf8}
 use Rattle.file_trees.specs.declared.decl_tree.DeclTree.{DeclTree}
-use Rattle.file_syntax.specs.declared.sign.Sign.{Sign}
-use Rattle.file_syntax.specs.Signs.{sign_of, signs_of}
+use Rattle.file_syntax.specs.declared.terminal.Terminal.{Terminal}
+use Rattle.file_syntax.specs.Terminals.{terminal_of, terminals_of}
 use Rattle.file_syntax.specs.Productions.{IsFile}
 use Rattle.file_syntax.specs.Nesting.{nesting, IsShallow}
 use Rattle.file_syntax.specs.Files.{IsParsed, GoesNoFurther, IsExpected, IsTooDeep}
@@ -20,35 +20,35 @@ use Rattle.aesop_session.specs.declared.refusal.RefusalKind.TheVariants.{NotUtf8
 use Rattle.aesop_session.specs.Refusals.{IsAccepted, HasFault, RefusesText}
 use Rattle.file_elab.proofs.OneProgram.{one_program_of_file, program_not_refused}
 
--- the signs of tokens of which these come first
-signs_of-parts : (bytes : List ℕ) (front rest tokens : List Token) → tokens ≡ front ++ rest → signs_of bytes tokens ≡ signs_of bytes front ++ signs_of bytes rest
-signs_of-parts bytes front rest tokens e = ap (signs_of bytes) e ∙ map-append (sign_of bytes) front rest
+-- the terminals of tokens of which these come first
+terminals_of-parts : (bytes : List ℕ) (prefix rest tokens : List Token) → tokens ≡ prefix ++ rest → terminals_of bytes tokens ≡ terminals_of bytes prefix ++ terminals_of bytes rest
+terminals_of-parts bytes prefix rest tokens e = ap (terminals_of bytes) e ∙ map-append (terminal_of bytes) prefix rest
 
-signs_of-token : (bytes : List ℕ) (front rest tokens : List Token) (token : Token) → tokens ≡ front ++ token ∷ rest →
-    signs_of bytes tokens ≡ (signs_of bytes front ++ sign_of bytes token ∷ []) ++ signs_of bytes rest
-signs_of-token bytes front rest tokens token e =
-    signs_of-parts bytes front (token ∷ rest) tokens e ∙ sym (append_assoc (signs_of bytes front) (sign_of bytes token ∷ []) (signs_of bytes rest))
+terminals_of-token : (bytes : List ℕ) (prefix rest tokens : List Token) (token : Token) → tokens ≡ prefix ++ token ∷ rest →
+    terminals_of bytes tokens ≡ (terminals_of bytes prefix ++ terminal_of bytes token ∷ []) ++ terminals_of bytes rest
+terminals_of-token bytes prefix rest tokens token e =
+    terminals_of-parts bytes prefix (token ∷ rest) tokens e ∙ sym (append_assoc (terminals_of bytes prefix) (terminal_of bytes token ∷ []) (terminals_of bytes rest))
 
 -- a file goes on with each of its tokens
-goes_further : (bytes : List ℕ) (front rest tokens : List Token) (declarations : List DeclTree) → tokens ≡ front ++ rest → IsFile (signs_of bytes tokens) declarations →
-    GoesNoFurther bytes (signs_of bytes front) rest → ⊥
-goes_further bytes front [] tokens declarations e file none = none declarations (subst (λ ts. IsFile (signs_of bytes ts) declarations) (e ∙ append-nil front) file)
-goes_further bytes front (token ∷ rest) tokens declarations e file none =
-    none (signs_of bytes rest, declarations, subst (λ signs. IsFile signs declarations) (signs_of-token bytes front rest tokens token e) file)
+goes_further : (bytes : List ℕ) (prefix rest tokens : List Token) (declarations : List DeclTree) → tokens ≡ prefix ++ rest → IsFile (terminals_of bytes tokens) declarations →
+    GoesNoFurther bytes (terminals_of bytes prefix) rest → ⊥
+goes_further bytes prefix [] tokens declarations e file none = none declarations (subst (λ ts. IsFile (terminals_of bytes ts) declarations) (e ∙ append-nil prefix) file)
+goes_further bytes prefix (token ∷ rest) tokens declarations e file none =
+    none (terminals_of bytes rest, declarations, subst (λ terminals. IsFile terminals declarations) (terminals_of-token bytes prefix rest tokens token e) file)
 
 IsParsed-not_expected : (bytes : List ℕ) (tokens : List Token) (size place : ℕ) (declarations : List DeclTree) → IsParsed bytes tokens declarations → IsExpected bytes tokens size place → ⊥
-IsParsed-not_expected bytes tokens size place declarations parsed h = goes_further bytes h.front h.rest tokens declarations h.parts parsed.file h.no_further
+IsParsed-not_expected bytes tokens size place declarations parsed h = goes_further bytes h.prefix h.rest tokens declarations h.parts parsed.file h.no_further
 
--- a front of what is shallow is so
-shallow_front : (front rest : List Sign) → IsShallow (front ++ rest) → 256 < nesting front → ⊥
-shallow_front front rest shallow deep =
-    let same = ap nesting (take_at front rest (length front) refl) in
-    omega (arith, shallow (length front), same, deep)
+-- a prefix of what is shallow is so
+shallow_prefix : (prefix rest : List Terminal) → IsShallow (prefix ++ rest) → 256 < nesting prefix → ⊥
+shallow_prefix prefix rest shallow deep =
+    let same = ap nesting (take_at prefix rest (length prefix) refl) in
+    omega (arith, shallow (length prefix), same, deep)
 
 IsParsed-not_deep : (bytes : List ℕ) (tokens : List Token) (place : ℕ) (declarations : List DeclTree) → IsParsed bytes tokens declarations → IsTooDeep bytes tokens place → ⊥
 IsParsed-not_deep bytes tokens place declarations parsed h =
-    shallow_front (signs_of bytes h.front ++ sign_of bytes h.token ∷ []) (signs_of bytes h.rest)
-    (subst IsShallow (signs_of-token bytes h.front h.rest tokens h.token h.parts) parsed.shallow) h.deep
+    shallow_prefix (terminals_of bytes h.prefix ++ terminal_of bytes h.token ∷ []) (terminals_of bytes h.rest)
+    (subst IsShallow (terminals_of-token bytes h.prefix h.rest tokens h.token h.parts) parsed.shallow) h.deep
 
 abbrev inside : {A : Type 0} (a : A) → Option A → A
 inside a None = a

@@ -8,7 +8,8 @@ use Rattle.aesop_session.specs.declared.status.Status.{Status}
 use Rattle.aesop_session.specs.declared.status.Status.TheVariants.{AllProved, SomeStuck, SomeSpent, FileRefused, Usage, TooLong, ReadFault, WriteFault, NoMemory, AnswersRefused}
 use Rattle.aesop_session.specs.Commands.{prove_words}
 use Rattle.aesop_session.specs.Refusals.{IsAccepted, RefusesText}
-use Rattle.aesop_session.specs.Answers.{most_bytes, AnswersFile, RefusesFile, Answered, Served, Refused, Overlong, IsStatusFor}
+use Rattle.basics.specs.Limits.{most_input}
+use Rattle.aesop_session.specs.Answers.{AnswersFile, RefusesFile, Answered, Served, Refused, Overlong, IsStatusFor}
 use Rattle.aesop_session.proofs.Exclusions.{IsAccepted-not_refused}
 
 -- a source that gave all that it had gave this
@@ -16,7 +17,7 @@ all_taken : (input taken : List ℕ) (later : Option (List ℕ)) → TakesAll (S
 all_taken input taken None h = absurd h.0
 all_taken input taken (Some rest) h = sym (h.0 ∙ ap (λ (t : List ℕ). taken ++ t) h.1 ∙ append-nil taken)
 
-more_taken : (input : List ℕ) (later : Option (List ℕ)) → TakesMoreThan most_bytes (Some input) later → most_bytes < length input
+more_taken : (input : List ℕ) (later : Option (List ℕ)) → TakesMoreThan most_input (Some input) later → most_input < length input
 more_taken input None h = absurd h.2
 more_taken input (Some rest) h = omega (arith, h.1, ap length h.2, length-append h.0 rest)
 
@@ -25,7 +26,7 @@ record AcceptedInput (input : List ℕ) : Type 0 where
   program : LfProgram
   accepted : IsAccepted input program
   is_small : IsSmall program
-  fits : length input ≤ most_bytes
+  fits : length input ≤ most_input
 
 answered_input : (input : List ℕ) (later : Option (List ℕ)) (status : Status) (text : List ℕ) → AnswersFile (Some input) later status text → AcceptedInput input
 answered_input input later status text a =
@@ -34,14 +35,14 @@ answered_input input later status text a =
       program = a.program;
       accepted = subst (λ bytes. IsAccepted bytes a.program) same a.taken.3;
       is_small = a.taken.4;
-      fits = subst (λ bytes. length bytes ≤ most_bytes) same a.taken.2;
+      fits = subst (λ bytes. length bytes ≤ most_input) same a.taken.2;
     }
 
 record RefusedInput (input : List ℕ) : Type 0 where
   place : ℕ
   kind : RefusalKind
   refused : RefusesText input place kind
-  fits : length input ≤ most_bytes
+  fits : length input ≤ most_input
 
 refused_input : (input : List ℕ) (later : Option (List ℕ)) (text : List ℕ) → RefusesFile (Some input) later text → RefusedInput input
 refused_input input later text r =
@@ -50,7 +51,7 @@ refused_input input later text r =
       place = r.3.place;
       kind = r.3.kind;
       refused = subst (λ bytes. RefusesText bytes r.3.place r.3.kind) same r.3.refused;
-      fits = subst (λ bytes. length bytes ≤ most_bytes) same r.2;
+      fits = subst (λ bytes. length bytes ≤ most_input) same r.2;
     }
 
 -- an input that is accepted with a small program gives no reason to refuse it
@@ -61,12 +62,12 @@ small_not_refused input program accepted small r = IsAccepted-not_refused r.kind
 refused_not_small : (input : List ℕ) (place : ℕ) (kind : RefusalKind) → RefusesText input place kind → AcceptedInput input → ⊥
 refused_not_small input place kind refused a = IsAccepted-not_refused kind input a.program place a.accepted a.is_small refused
 
-not_overlong : (input : List ℕ) (later : Option (List ℕ)) → length input ≤ most_bytes → TakesMoreThan most_bytes (Some input) later → ⊥
+not_overlong : (input : List ℕ) (later : Option (List ℕ)) → length input ≤ most_input → TakesMoreThan most_input (Some input) later → ⊥
 not_overlong input later fits more = omega (arith, fits, more_taken input later more)
 
 small_status : (status : Status) (input : List ℕ) (later held after : Option (List ℕ)) → Answered prove_words (Some input) later held after status →
     (status ≡ ReadFault → ⊥) → (status ≡ WriteFault → ⊥) →
-    (program : LfProgram) → length input ≤ most_bytes → IsAccepted input program → IsSmall program → Served status
+    (program : LfProgram) → length input ≤ most_input → IsAccepted input program → IsSmall program → Served status
 small_status AllProved input later held after a no_read no_write program fits accepted small = tt
 small_status SomeStuck input later held after a no_read no_write program fits accepted small = tt
 small_status SomeSpent input later held after a no_read no_write program fits accepted small = a.1
@@ -80,7 +81,7 @@ small_status AnswersRefused input later held after a no_read no_write program fi
 
 refused_status : (status : Status) (input : List ℕ) (later held after : Option (List ℕ)) → Answered prove_words (Some input) later held after status →
     (status ≡ ReadFault → ⊥) → (status ≡ WriteFault → ⊥) →
-    (place : ℕ) (kind : RefusalKind) → length input ≤ most_bytes → RefusesText input place kind → Refused status
+    (place : ℕ) (kind : RefusalKind) → length input ≤ most_input → RefusesText input place kind → Refused status
 refused_status AllProved input later held after a no_read no_write place kind fits refused = refused_not_small input place kind refused (answered_input input later AllProved a.0 a.1.1)
 refused_status SomeStuck input later held after a no_read no_write place kind fits refused = refused_not_small input place kind refused (answered_input input later SomeStuck a.0 a.1.1)
 refused_status SomeSpent input later held after a no_read no_write place kind fits refused = a.1
@@ -92,11 +93,11 @@ refused_status WriteFault input later held after a no_read no_write place kind f
 refused_status NoMemory input later held after a no_read no_write place kind fits refused = tt
 refused_status AnswersRefused input later held after a no_read no_write place kind fits refused = a.1
 
-too_long : (input : List ℕ) → most_bytes < length input → length input ≤ most_bytes → ⊥
+too_long : (input : List ℕ) → most_input < length input → length input ≤ most_input → ⊥
 too_long input more fits = omega (arith, more, fits)
 
 overlong_status : (status : Status) (input : List ℕ) (later held after : Option (List ℕ)) → Answered prove_words (Some input) later held after status →
-    (status ≡ ReadFault → ⊥) → (status ≡ WriteFault → ⊥) → most_bytes < length input → Overlong status
+    (status ≡ ReadFault → ⊥) → (status ≡ WriteFault → ⊥) → most_input < length input → Overlong status
 overlong_status AllProved input later held after a no_read no_write more = too_long input more (answered_input input later AllProved a.0 a.1.1).fits
 overlong_status SomeStuck input later held after a no_read no_write more = too_long input more (answered_input input later SomeStuck a.0 a.1.1).fits
 overlong_status SomeSpent input later held after a no_read no_write more = a.1

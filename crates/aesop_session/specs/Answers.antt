@@ -1,7 +1,8 @@
 -- What the top call answers: each status, with what was read and written.
 use Rattle.std.specs.Prelude.{◌≡◌, ℕ, ◌<◌, ◌≤◌, ◌⊎◌, length, List, codes, Option}
 use Rattle.std.specs.Io.KnownBytes.{Keeps, Appends}
-use Rattle.run_io.specs.Moves.{TakesAll, TakesAtMost, TakesMoreThan, AppendsFront}
+use Rattle.basics.specs.Limits.{most_input}
+use Rattle.run_io.specs.Moves.{TakesAll, TakesAtMost, TakesMoreThan, AppendsPrefix}
 use Rattle.file_elab.specs.Programs.{LfProgram}
 use Rattle.small_forms.specs.Smallness.{IsSmall, small_form}
 use Rattle.aesop_session.specs.declared.refusal.RefusalKind.{RefusalKind}
@@ -18,13 +19,9 @@ usage_line = line (codes "usage: aesop prove [--workers N] [--budget N] [--trace
 abbrev pub too_long_line : List ℕ
 too_long_line = line (codes "refused: input too long")
 
--- the most bytes that are read
-abbrev pub most_bytes : ℕ
-most_bytes = 4194304
-
 -- What was read is accepted, and its program is this small one.
 abbrev pub TakesProgram : (left later : Option (List ℕ)) → LfProgram → Type 0
-TakesProgram left later program = (input : List ℕ) × TakesAll left later input × (length input ≤ most_bytes) × IsAccepted input program × IsSmall program
+TakesProgram left later program = (input : List ℕ) × TakesAll left later input × (length input ≤ most_input) × IsAccepted input program × IsSmall program
 
 -- What was read is accepted with a small program, and the text is a right document for it.
 pub record AnswersFile (left later : Option (List ℕ)) (status : Status) (text : List ℕ) : Type 0 where
@@ -34,7 +31,7 @@ pub record AnswersFile (left later : Option (List ℕ)) (status : Status) (text 
 
 -- What was read is refused, and the text is the line that says so.
 abbrev pub RefusesFile : (left later : Option (List ℕ)) → (text : List ℕ) → Type 0
-RefusesFile left later text = (input : List ℕ) × TakesAll left later input × (length input ≤ most_bytes) × IsRefusedAs input text
+RefusesFile left later text = (input : List ℕ) × TakesAll left later input × (length input ≤ most_input) × IsRefusedAs input text
 
 -- The text is the whole answer of this status to the words, where the source had the one left before and has
 -- the other left after.
@@ -42,19 +39,19 @@ abbrev pub IsAnswer : List (List ℕ) → Option (List ℕ) → Option (List ℕ
 IsAnswer words left later AllProved text = IsProve words × AnswersFile left later AllProved text
 IsAnswer words left later SomeStuck text = IsProve words × AnswersFile left later SomeStuck text
 IsAnswer words left later FileRefused text = IsProve words × RefusesFile left later text
-IsAnswer words left later TooLong text = IsProve words × TakesMoreThan most_bytes left later × (text ≡ too_long_line)
+IsAnswer words left later TooLong text = IsProve words × TakesMoreThan most_input left later × (text ≡ too_long_line)
 IsAnswer words left later Usage text = (IsProve words → ⊥) × Keeps left later × (text ≡ usage_line)
 IsAnswer words left later _ text = ⊥
 
--- The sink took a front of the whole answer of some status.
-abbrev pub TakesFront : List (List ℕ) → (left later held after : Option (List ℕ)) → Type 0
-TakesFront words left later held after = (status : Status) × (text : List ℕ) × IsAnswer words left later status text × AppendsFront held after text
+-- The sink took a prefix of the whole answer of some status.
+abbrev pub TakesPrefix : List (List ℕ) → (left later held after : Option (List ℕ)) → Type 0
+TakesPrefix words left later held after = (status : Status) × (text : List ℕ) × IsAnswer words left later status text × AppendsPrefix held after text
 
 -- What each status says of the source and the sink.
 abbrev pub Answered : List (List ℕ) → (left later held after : Option (List ℕ)) → Status → Type 0
-Answered words left later held after ReadFault = IsProve words × TakesAtMost most_bytes left later × Keeps held after
-Answered words left later held after WriteFault = TakesFront words left later held after
-Answered words left later held after NoMemory = (IsProve words × TakesAtMost most_bytes left later × Keeps held after) ⊎ TakesFront words left later held after
+Answered words left later held after ReadFault = IsProve words × TakesAtMost most_input left later × Keeps held after
+Answered words left later held after WriteFault = TakesPrefix words left later held after
+Answered words left later held after NoMemory = (IsProve words × TakesAtMost most_input left later × Keeps held after) ⊎ TakesPrefix words left later held after
 Answered words left later held after status = (text : List ℕ) × IsAnswer words left later status text × Appends held after text
 
 -- The file was answered, or memory ran out.
@@ -79,8 +76,8 @@ Overlong _ = ⊥
 -- The status that the input must have where nothing fails.
 pub record IsStatusFor (input : List ℕ) (status : Status) : Type 0 where
   -- a small program is answered
-  pub small : (program : LfProgram) → length input ≤ most_bytes → IsAccepted input program → IsSmall program → Served status
+  pub small : (program : LfProgram) → length input ≤ most_input → IsAccepted input program → IsSmall program → Served status
   -- what is refused is said to be so
-  pub refused : (place : ℕ) (kind : RefusalKind) → length input ≤ most_bytes → RefusesText input place kind → Refused status
+  pub refused : (place : ℕ) (kind : RefusalKind) → length input ≤ most_input → RefusesText input place kind → Refused status
   -- and so is what is too long
-  pub overlong : most_bytes < length input → Overlong status
+  pub overlong : most_input < length input → Overlong status

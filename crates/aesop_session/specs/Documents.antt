@@ -1,16 +1,16 @@
 -- The text of right answers for a small program.
 use Rattle.std.specs.Prelude.{◌≡◌, ℕ, List, [], ◌∷◌, ◌++◌, codes, Bool, true, false, Option}
 use Rattle.std.specs.Io.KnownBytes.{Appends}
-use Rattle.run_io.specs.Moves.{AppendsFront}
+use Rattle.run_io.specs.Moves.{AppendsPrefix}
 use Rattle.lf_definitions.specs.Syntax.{LfTerm, no_args, arg}
 use Rattle.small_programs.specs.declared.small.SmallProgram.{SmallProgram}
-use Rattle.small_programs.specs.Names.{constant_names, rule_names}
+use Rattle.small_programs.specs.Names.{small_constant_names, small_rule_names}
 use Rattle.small_programs.specs.declared.small.SmallTheorem.{SmallTheorem}
 use Rattle.aesop_session.specs.declared.status.Status.{Status}
 use Rattle.aesop_session.specs.declared.status.Status.TheVariants.{AllProved, SomeStuck}
 use Rattle.small_search.specs.Derivations.{HasNoDerivation}
 use Rattle.small_search.specs.DerivationTerms.{HasTerms}
-use Rattle.small_answers.specs.Texts.{line, term_text, script_text}
+use Rattle.small_answers.specs.Texts.{line, closed_term_text, script_text}
 
 abbrev pub first_line : List ℕ
 first_line = line (codes "aesop 1 budget 1000")
@@ -40,7 +40,7 @@ pub record IsProvedBlock (program : SmallProgram) (theorem : SmallTheorem) (text
   pub numbers : List ℕ
   pub term : LfTerm
   pub has_terms : HasTerms program (theorem.family ∷ []) numbers (arg term no_args)
-  pub text_is : text ≡ proved_text theorem.name (term_text (constant_names program.constants) term) (script_text (rule_names program.rules) numbers)
+  pub text_is : text ≡ proved_text theorem.name (closed_term_text (small_constant_names program.constants) term) (script_text (small_rule_names program.rules) numbers)
 
 -- The block says that the theorem has no derivation.
 pub record IsStuckBlock (program : SmallProgram) (theorem : SmallTheorem) (text : List ℕ) : Type 0 where
@@ -85,9 +85,9 @@ AddsBlock program theorem old new is_proved = (text : List ℕ) × IsBlock progr
 abbrev pub WritesBlock : SmallProgram → SmallTheorem → (held after : Option (List ℕ)) → Bool → Type 0
 WritesBlock program theorem held after is_proved = (text : List ℕ) × IsBlock program theorem (verdict_of is_proved) text × Appends held after text
 
--- The sink took a front of a right block of the theorem.
-abbrev pub WritesBlockFront : SmallProgram → SmallTheorem → (held after : Option (List ℕ)) → Type 0
-WritesBlockFront program theorem held after = (verdict : Verdict) × (text : List ℕ) × IsBlock program theorem verdict text × AppendsFront held after text
+-- The sink took a prefix of a right block of the theorem.
+abbrev pub WritesBlockPrefix : SmallProgram → SmallTheorem → (held after : Option (List ℕ)) → Type 0
+WritesBlockPrefix program theorem held after = (verdict : Verdict) × (text : List ℕ) × IsBlock program theorem verdict text × AppendsPrefix held after text
 
 -- The sink took right blocks of the theorems, with this status.
 pub record WritesBlocks (program : SmallProgram) (theorems : List SmallTheorem) (held after : Option (List ℕ)) (status : Status) : Type 0 where
@@ -97,14 +97,14 @@ pub record WritesBlocks (program : SmallProgram) (theorems : List SmallTheorem) 
   pub status_is : status ≡ status_of verdicts
   pub taken : Appends held after blocks
 
--- The sink took a front of right blocks of the theorems.
-abbrev pub WritesBlocksFront : SmallProgram → List SmallTheorem → (held after : Option (List ℕ)) → Type 0
-WritesBlocksFront program theorems held after = (verdicts : List Verdict) × (blocks : List ℕ) × AreBlocks program theorems verdicts blocks × AppendsFront held after blocks
+-- The sink took a prefix of right blocks of the theorems.
+abbrev pub WritesBlocksPrefix : SmallProgram → List SmallTheorem → (held after : Option (List ℕ)) → Type 0
+WritesBlocksPrefix program theorems held after = (verdicts : List Verdict) × (blocks : List ℕ) × AreBlocks program theorems verdicts blocks × AppendsPrefix held after blocks
 
 -- The sink took a right document, with this status.
 abbrev pub WritesDocument : SmallProgram → (held after : Option (List ℕ)) → Status → Type 0
 WritesDocument program held after status = (text : List ℕ) × IsDocument program status text × Appends held after text
 
--- The sink took a front of a right document.
-abbrev pub WritesDocumentFront : SmallProgram → (held after : Option (List ℕ)) → Type 0
-WritesDocumentFront program held after = (status : Status) × (text : List ℕ) × IsDocument program status text × AppendsFront held after text
+-- The sink took a prefix of a right document.
+abbrev pub WritesDocumentPrefix : SmallProgram → (held after : Option (List ℕ)) → Type 0
+WritesDocumentPrefix program held after = (status : Status) × (text : List ℕ) × IsDocument program status text × AppendsPrefix held after text

@@ -3,5 +3,5 @@ pub mod Commands
 pub mod Documents
 pub mod Refusals
 pub mod Answers
-pub mod Serving
+pub mod Inputs
 pub mod Verdicts

@@ -37,23 +37,23 @@ RefusesText bytes place IllTyped = HasFault bytes (faults.IllTyped place)
 RefusesText bytes place BadRule = HasFault bytes (faults.BadRule place)
 RefusesText bytes place Unsupported = (place ≡ 0) × (program : LfProgram) × IsAccepted bytes program × (IsSmall program → ⊥)
 
-abbrev pub word_of : RefusalKind → List ℕ
-word_of NotUtf8 = codes "not utf-8"
-word_of BadCharacter = codes "bad character"
-word_of LongName = codes "long name"
-word_of Expected = codes "expected"
-word_of TooDeep = codes "too deep"
-word_of Taken = codes "taken"
-word_of TooMany = codes "too many"
-word_of Unknown = codes "unknown"
-word_of Redex = codes "redex"
-word_of IllTyped = codes "ill typed"
-word_of BadRule = codes "bad rule"
-word_of Unsupported = codes "unsupported"
+abbrev pub fault_word : RefusalKind → List ℕ
+fault_word NotUtf8 = codes "not utf-8"
+fault_word BadCharacter = codes "bad character"
+fault_word LongName = codes "long name"
+fault_word Expected = codes "expected"
+fault_word TooDeep = codes "too deep"
+fault_word Taken = codes "taken"
+fault_word TooMany = codes "too many"
+fault_word Unknown = codes "unknown"
+fault_word Redex = codes "redex"
+fault_word IllTyped = codes "ill typed"
+fault_word BadRule = codes "bad rule"
+fault_word Unsupported = codes "unsupported"
 
 -- what is written of a refusal
 abbrev pub line_of : RefusalKind → (place : ℕ) → List ℕ
-line_of kind place = codes "refused at " ++ decimal place ++ codes ": " ++ line (word_of kind)
+line_of kind place = codes "refused at " ++ decimal place ++ codes ": " ++ line (fault_word kind)
 
 -- The bytes are refused, and the text is the line that says so.
 pub record IsRefusedAs (bytes text : List ℕ) : Type 0 where

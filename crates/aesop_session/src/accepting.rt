@@ -9,7 +9,7 @@ ghost use Rattle.file_elab.specs.ProgramViews.{program_of};
 ghost use Rattle.file_elab.specs.Theorems.{AreFormed};
 ghost use Rattle.small_programs.specs.SmallPrograms.{IsNumbered};
 ghost use Rattle.aesop_session.specs.Refusals.{IsAccepted};
-ghost use Rattle.aesop_session.specs.Serving.{IsSmallOf, IsUnserved};
+ghost use Rattle.aesop_session.specs.Inputs.{IsSmallOf, IsUnserved};
 
 use crate::refusal::{Refusal, RefusalKind};
 use file_elab::{ElabFault, Program, elaborate};

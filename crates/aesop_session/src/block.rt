@@ -11,14 +11,14 @@ use small_programs::{SmallProgram, SmallTheorem};
 use small_search::Table;
 use std::alloc::Global;
 
-/// A block of so many bytes or more is want of memory.
+/// A block of so many bytes or more is out of memory.
 const MOST: u64 = 1 << 31;
 
 /// How many bytes a proved block has beside the names and the texts: those of its words.
 const WORDS: u64 = 22;
 
 /// Adds the block of a theorem at the end, and answers whether the theorem is proved. A block that
-/// would be too long is want of memory before any of it is made.
+/// would be too long is out of memory before any of it is made.
 pub(crate) fn append_block(
     alloc: Global,
     out: &mut Bytes,

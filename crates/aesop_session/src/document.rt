@@ -3,9 +3,9 @@
 ghost use Rattle.std.specs.Prelude.{◌≡◌, ◌≤◌, ◌⊎◌, IfOk, OnOk, OnErr, IsErrOf, if◌then◌else◌};
 ghost use Rattle.std.specs.Io.KnownBytes.{Appends};
 ghost use Rattle.run_io.specs.Causes.{Rose};
-ghost use Rattle.run_io.specs.Moves.{AppendsFront};
+ghost use Rattle.run_io.specs.Moves.{AppendsPrefix};
 ghost use Rattle.small_answers.specs.Lengths.{IsProofs};
-ghost use Rattle.aesop_session.specs.Documents.{WritesBlock, WritesBlockFront, WritesBlocks, WritesBlocksFront, WritesDocument, WritesDocumentFront};
+ghost use Rattle.aesop_session.specs.Documents.{WritesBlock, WritesBlockPrefix, WritesBlocks, WritesBlocksPrefix, WritesDocument, WritesDocumentPrefix};
 
 use crate::block::append_block;
 use crate::status::Status;
@@ -17,37 +17,37 @@ use std::alloc::Global;
 
 /// Why a text was not written whole.
 #[derive(Clone, Copy, Debug, PartialEq, Eq)]
-pub(crate) enum Stop {
+pub(crate) enum WriteFault {
     /// The sink failed, or took nothing of a piece.
     Write,
     /// Memory ran out.
     NoMemory,
 }
 
-impl From<NoMemory> for Stop {
+impl From<NoMemory> for WriteFault {
     ghost use Rattle.std.specs.Prelude.{◌≡◌};
-    ghost use Rattle.aesop_session.specs.declared.document.Stop.TheVariants as stops;
+    ghost use Rattle.aesop_session.specs.declared.document.WriteFault.TheVariants as stops;
 
     ghost from_gives = { λ _ stop. stop ≡ stops.NoMemory };
 
-    fn from(_error: NoMemory) -> Stop {
-        Stop::NoMemory
+    fn from(_error: NoMemory) -> WriteFault {
+        WriteFault::NoMemory
     }
 }
 
 /// Writes a piece whole, or tells that it was not.
-pub(crate) fn write_text<K: Sink>(sink: &mut K, bytes: &[u8]) -> Result<(), Stop>
+pub(crate) fn write_text<K: Sink>(sink: &mut K, bytes: &[u8]) -> Result<(), WriteFault>
     ensures ok { OnOk result (Appends (K.held sink.old) (K.held sink.new) bytes.now) }
-    ensures err { OnErr result (AppendsFront (K.held sink.old) (K.held sink.new) bytes.now) }
+    ensures err { OnErr result (AppendsPrefix (K.held sink.old) (K.held sink.new) bytes.now) }
     ensures cause { OnErr result (Rose (K.faults sink.old) (K.faults sink.new) ⊎ Rose (K.zeros sink.old) (K.zeros sink.new)) }
-    ensures stop { OnErr result (result ≡ Err Stop.Write) }
+    ensures stop { OnErr result (result ≡ Err WriteFault.Write) }
     ensures faults_later { K.faults sink.old ≤ K.faults sink.new }
     ensures zeros_later { K.zeros sink.old ≤ K.zeros sink.new }
 {
     match write_piece(sink, bytes) {
         Ok(()) => Ok(()),
-        Err(WriteEnd::Fault) => Err(Stop::Write),
-        Err(WriteEnd::Took0) => Err(Stop::Write),
+        Err(WriteEnd::Fault) => Err(WriteFault::Write),
+        Err(WriteEnd::Took0) => Err(WriteFault::Write),
     }
 }
 
@@ -59,11 +59,11 @@ fn answer_theorem<K: Sink>(
     proofs: &Proofs,
     theorem: &SmallTheorem,
     sink: &mut K,
-) -> Result<bool, Stop>
+) -> Result<bool, WriteFault>
     requires { IsProofs program.now proofs.now }
     ensures ok { IfOk result (WritesBlock program.now theorem.now (K.held sink.old) (K.held sink.new)) }
-    ensures err { OnErr result (WritesBlockFront program.now theorem.now (K.held sink.old) (K.held sink.new)) }
-    ensures cause { IsErrOf result Stop.Write →
+    ensures err { OnErr result (WritesBlockPrefix program.now theorem.now (K.held sink.old) (K.held sink.new)) }
+    ensures cause { IsErrOf result WriteFault.Write →
         Rose (K.faults sink.old) (K.faults sink.new) ⊎ Rose (K.zeros sink.old) (K.zeros sink.new) }
     ensures faults_later { K.faults sink.old ≤ K.faults sink.new }
     ensures zeros_later { K.zeros sink.old ≤ K.zeros sink.new }
@@ -71,7 +71,7 @@ fn answer_theorem<K: Sink>(
     block.clear();
     let is_proved = match append_block(alloc, block, program, proofs, theorem) {
         Ok(is_proved) => is_proved,
-        Err(_) => return Err(Stop::NoMemory),
+        Err(_) => return Err(WriteFault::NoMemory),
     };
     match write_text(sink, block.as_slice()) {
         Ok(()) => Ok(is_proved),
@@ -85,11 +85,11 @@ fn write_blocks<K: Sink>(
     program: &SmallProgram,
     proofs: &Proofs,
     sink: &mut K,
-) -> Result<Status, Stop>
+) -> Result<Status, WriteFault>
     requires { IsProofs program.now proofs.now }
     ensures ok { IfOk result (WritesBlocks program.now program.now.theorems (K.held sink.old) (K.held sink.new)) }
-    ensures err { OnErr result (WritesBlocksFront program.now program.now.theorems (K.held sink.old) (K.held sink.new)) }
-    ensures cause { IsErrOf result Stop.Write →
+    ensures err { OnErr result (WritesBlocksPrefix program.now program.now.theorems (K.held sink.old) (K.held sink.new)) }
+    ensures cause { IsErrOf result WriteFault.Write →
         Rose (K.faults sink.old) (K.faults sink.new) ⊎ Rose (K.zeros sink.old) (K.zeros sink.new) }
     ensures faults_later { K.faults sink.old ≤ K.faults sink.new }
     ensures zeros_later { K.zeros sink.old ≤ K.zeros sink.new }
@@ -119,11 +119,11 @@ pub(crate) fn write_document<K: Sink>(
     program: &SmallProgram,
     proofs: &Proofs,
     sink: &mut K,
-) -> Result<Status, Stop>
+) -> Result<Status, WriteFault>
     requires { IsProofs program.now proofs.now }
     ensures ok { IfOk result (WritesDocument program.now (K.held sink.old) (K.held sink.new)) }
-    ensures err { OnErr result (WritesDocumentFront program.now (K.held sink.old) (K.held sink.new)) }
-    ensures cause { IsErrOf result Stop.Write →
+    ensures err { OnErr result (WritesDocumentPrefix program.now (K.held sink.old) (K.held sink.new)) }
+    ensures cause { IsErrOf result WriteFault.Write →
         Rose (K.faults sink.old) (K.faults sink.new) ⊎ Rose (K.zeros sink.old) (K.zeros sink.new) }
     ensures faults_later { K.faults sink.old ≤ K.faults sink.new }
     ensures zeros_later { K.zeros sink.old ≤ K.zeros sink.new }

@@ -3,15 +3,14 @@
 ghost use Rattle.std.specs.Prelude.{◌≡◌, ◌≤◌, IfOk, IfErr, IsErrOf};
 ghost use Rattle.run_io.specs.Causes.{Rose};
 ghost use Rattle.small_programs.specs.SmallPrograms.{IsNumbered};
-ghost use Rattle.aesop_session.specs.Serving.{TakesSmall, IsNoProgram};
+ghost use Rattle.aesop_session.specs.Inputs.{TakesSmall, IsNoProgram};
 
+use basics::limits::MOST_INPUT;
 use crate::accepting::{Unserved, small_of};
 use crate::refusal::Refusal;
 use run_io::{ReadEnd, Source, read_all};
 use small_programs::SmallProgram;
 use std::alloc::Global;
-
-const MOST_BYTES: u32 = 4_194_304;
 
 /// Why no program was read.
 #[derive(Clone, Copy, Debug, PartialEq, Eq)]
@@ -37,7 +36,7 @@ pub(crate) fn read_program<S: Source>(
     ensures fault { IsErrOf result NoProgram.Fault → Rose (S.faults source.old) (S.faults source.new) }
     ensures later { S.faults source.old ≤ S.faults source.new }
 {
-    let input = match read_all(alloc, source, MOST_BYTES) {
+    let input = match read_all(alloc, source, MOST_INPUT) {
         Ok(input) => input,
         Err(ReadEnd::Fault) => return Err(NoProgram::Fault),
         Err(ReadEnd::TooLong) => return Err(NoProgram::TooLong),

@@ -11,11 +11,7 @@ mod command;
 mod document;
 mod input;
 pub mod refusal;
-#[cfg(test)]
-mod refusal_tests;
 pub mod status;
-#[cfg(test)]
-mod tests;
 mod top;
 pub mod verdict;
 

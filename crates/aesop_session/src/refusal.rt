@@ -43,11 +43,11 @@ pub struct Refusal {
 
 impl RefusalKind {
     ghost use Rattle.std.specs.Prelude.{◌≡◌};
-    ghost use Rattle.aesop_session.specs.Refusals.{word_of};
+    ghost use Rattle.aesop_session.specs.Refusals.{fault_word};
 
     /// The words for it.
     pub fn word(&self) -> &'static str
-        ensures { result.now ≡ word_of self.now }
+        ensures { result.now ≡ fault_word self.now }
     {
         match self {
             RefusalKind::NotUtf8 => "not utf-8",

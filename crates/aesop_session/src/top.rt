@@ -5,12 +5,13 @@ ghost use Rattle.run_io.specs.Causes.{Rose};
 ghost use Rattle.run_io.specs.Moves.{TakesMoreThan};
 ghost use Rattle.small_programs.specs.SmallPrograms.{IsNumbered};
 ghost use Rattle.aesop_session.specs.Commands.{IsProve, prove_words};
-ghost use Rattle.aesop_session.specs.Answers.{Answered, IsStatusFor, most_bytes};
-ghost use Rattle.aesop_session.specs.Serving.{TakesSmall, TakesRefused};
+ghost use Rattle.basics.specs.Limits.{most_input};
+ghost use Rattle.aesop_session.specs.Answers.{Answered, IsStatusFor};
+ghost use Rattle.aesop_session.specs.Inputs.{TakesSmall, TakesRefused};
 ghost use Rattle.aesop_session.specs.declared.status.Status.{Status};
 
 use crate::command::is_prove;
-use crate::document::{Stop, write_document, write_text};
+use crate::document::{WriteFault, write_document, write_text};
 use crate::input::{NoProgram, read_program};
 use crate::refusal::{Refusal, line_of};
 use crate::status::Status;
@@ -77,7 +78,7 @@ fn say_usage<K: Sink>(sink: &mut K) -> Status
 
 /// Writes that the input is too long.
 fn say_too_long<K: Sink>(sink: &mut K) -> Status
-    ensures answered { (left : Option (List ℕ)) (later : Option (List ℕ)) → TakesMoreThan most_bytes left later →
+    ensures answered { (left : Option (List ℕ)) (later : Option (List ℕ)) → TakesMoreThan most_input left later →
         Answered prove_words left later (K.held sink.old) (K.held sink.new) result }
     ensures no_read_fault { result ≡ Status.ReadFault → ⊥ }
     ensures write_fault { result ≡ Status.WriteFault →
@@ -128,8 +129,8 @@ fn answer<K: Sink>(alloc: Global, program: &SmallProgram, sink: &mut K) -> Statu
     };
     match write_document(alloc, program, &proofs, sink) {
         Ok(status) => status,
-        Err(Stop::Write) => Status::WriteFault,
-        Err(Stop::NoMemory) => Status::NoMemory,
+        Err(WriteFault::Write) => Status::WriteFault,
+        Err(WriteFault::NoMemory) => Status::NoMemory,
     }
 }
 

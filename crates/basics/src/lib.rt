@@ -1,4 +1,4 @@
-//! What every layer shares: want of memory, bytes, numbers, pairs of numbers, words, names and their look-up, and the limits. Contracts
+//! What every layer shares: out of memory, bytes, numbers, pairs of numbers, words, names and their look-up, and the limits. Contracts
 //! see a name as its bytes, and a list as the list of its entries. Nothing of this repository stands below.
 //! Proved: a list holds what went in, a refused growth leaves it as it was, and `Names` finds the place of a name.
 #![tactic(auto)]

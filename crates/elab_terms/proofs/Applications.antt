@@ -19,7 +19,7 @@ arguments_of-after (leaf span) after = refl
 arguments_of-after (abstraction span body) after = refl
 arguments_of-after (head tree) after = arguments_of-after tree after
 arguments_of-after (apply tree argument) after =
-    arguments_of-after tree (argument ∷ after) ∙ sym (append_assoc (arguments_of tree []) (argument ∷ []) after) ∙ ap (λ front. front ++ after) (sym (arguments_of-after tree (argument ∷ [])))
+    arguments_of-after tree (argument ∷ after) ∙ sym (append_assoc (arguments_of tree []) (argument ∷ []) after) ∙ ap (λ prefix. prefix ++ after) (sym (arguments_of-after tree (argument ∷ [])))
 
 append_nil : (xs : List Tree) → xs ++ [] ≡ xs
 append_nil [] = refl

@@ -23,13 +23,13 @@ use Rattle.lf_terms.specs.Putting.{Puts, TypeShaped}
 use Rattle.lf_terms.proofs.Spines.{args_count-spine_of, spine_of-append}
 use Rattle.lf_kernel.specs.declared.head_type.HeadType.{HeadType}
 use Rattle.lf_kernel.specs.Heads.{declared_type}
-use Rattle.lf_kernel.specs.Knowing.{binders_scope}
+use Rattle.lf_kernel.specs.ShapedPlaces.{binders_scope}
 use Rattle.lf_kernel.proofs.Arguments.{TypedUpTo}
 use Rattle.lf_kernel.proofs.Expected.{shapes_of-raised}
 use Rattle.file_trees.specs.Trees.{Tree}
 use Rattle.elab_terms.specs.Names.{Text, Bound}
-use Rattle.elab_terms.specs.Knowing.{Founded}
-use Rattle.elab_terms.specs.Passing.{left_of}
+use Rattle.elab_terms.specs.KnownTypes.{Founded}
+use Rattle.elab_terms.specs.Domains.{left_of}
 use Rattle.elab_terms.specs.Terms.{ReadsTerm, ReadsArguments, RefusesTerm, RefusesArguments}
 use Rattle.elab_terms.specs.declared.elab_fault.ElabFault.{ElabFault}
 use Rattle.elab_terms.proofs.EtaTyping.{pis-append}

@@ -6,12 +6,12 @@ use Rattle.std.proofs.lemmas.Bool.{cases_Bool, cases_eq}
 use Rattle.std.proofs.lemmas.List.{map-append, get_or_append_left, get_or_at, get_or-set_same, get_or-set_other, length-set, length-map, get_or_read}
 use Rattle.std.proofs.lemmas.Option.{slice_get_within}
 use Rattle.std.proofs.lemmas.Slice.Eq.{bytes_eq-Decides}
-use Rattle.lf_definitions.proofs.Lists.{slice_get-front}
+use Rattle.lf_definitions.proofs.Lists.{slice_get-prefix}
 use Rattle.basics.specs.Places.{place_of}
 use Rattle.basics.proofs.NamePlaces.{place_found}
 use Rattle.elab_terms.specs.Names.{Bound, variable_of}
 use Rattle.elab_terms.specs.Binding.{bound_from, name_of, bound_of, level_of, KeepsOuter, KeepsOuterIf, KeepOuter, IsIndexed, AddsName, name_occurred, name_is_new}
-use Rattle.elab_terms.specs.declared.binders.Named.{Named}
+use Rattle.elab_terms.specs.declared.bound_names.Named.{Named}
 use Rattle.elab_terms.proofs.BinderNames.{bound_from-push, count_bound}
 use Rattle.elab_terms.proofs.GrowingNames.{place_stays, place_before, place_one}
 
@@ -191,7 +191,7 @@ module _ (names : List (List ℕ)) (new : List ℕ) where
   name_stays : (outside : Bound) (binder : Option Named) → KeepsOuterIf names outside binder → name_of longer binder ≡ name_of names binder
   name_stays outside None keeps = refl
   name_stays outside (Some binder) keeps =
-      let here = place_found keeps.name names binder.name keeps.name_is in slice_get-front names (new ∷ []) binder.name keeps.name here ∙ sym here
+      let here = place_found keeps.name names binder.name keeps.name_is in slice_get-prefix names (new ∷ []) binder.name keeps.name here ∙ sym here
 
   keeps_still : (outside : Bound) (binder : Option Named) → KeepsOuterIf names outside binder → KeepsOuterIf longer outside binder
   keeps_still outside None keeps = tt

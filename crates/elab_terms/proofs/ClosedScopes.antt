@@ -1,7 +1,7 @@
 -- What declarations of families and constants rest on.
 use Rattle.std.proofs.Common.{◌≡◌, ℕ, suc, ◌<◌, [], ◌∷◌, length, refl, ap, arith}
 use Rattle.lf_definitions.specs.Signatures.{LfSignature, names_of, typing_in, FormedSignature}
-use Rattle.elab_terms.specs.Knowing.{KnownAt}
+use Rattle.elab_terms.specs.KnownTypes.{KnownAt}
 use Rattle.elab_terms.proofs.ReadTyped.{Founded-typing_in}
 
 pub known_closed : (sig : LfSignature) → FormedSignature sig → KnownAt sig (typing_in sig [] []) []

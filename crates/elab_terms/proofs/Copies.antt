@@ -18,9 +18,9 @@ drop-append (suc count) (y ∷ xs) x within = drop-append count xs x (omega arit
 pub type_copied : (types copies new : List Ty) (count i : ℕ) (t u : Ty) → count ≤ i → i < length types → t ≡ get_or types i t → new ≡ copies ++ u ∷ [] →
     types_of copies ≡ drop count (types_of (take i types)) → type_of u ≡ type_of t → types_of new ≡ drop count (types_of (take (i + 1) types))
 type_copied types copies new count i t u past within is pushed before here =
-    let front = types_of (take i types) in
-    let reaches : count ≤ length front = omega (arith, length-types_of (take i types), length-take-le i types (omega arith)) in
-    ap types_of pushed ∙ types_of-append copies u ∙ ap₂ (λ l x. l ++ x ∷ []) before here ∙ sym (drop-append count front (type_of t) reaches)
+    let prefix = types_of (take i types) in
+    let reaches : count ≤ length prefix = omega (arith, length-types_of (take i types), length-take-le i types (omega arith)) in
+    ap types_of pushed ∙ types_of-append copies u ∙ ap₂ (λ l x. l ++ x ∷ []) before here ∙ sym (drop-append count prefix (type_of t) reaches)
     ∙ ap (drop count) (sym (types_of-take_more types i t within is))
 
 pub copies_start : (types : List Ty) (count : ℕ) → count ≤ length types → [] ≡ drop count (types_of (take count types))
@@ -32,8 +32,8 @@ joined-joined : (ts us vs : Spine) → joined (joined ts us) vs ≡ joined ts (j
 joined-joined no_args us vs = refl
 joined-joined (arg t ts) us vs = ap (arg t) (joined-joined ts us vs)
 
-pub term_copied : (front : Spine) (more copies new : List Term) (i : ℕ) (t u : Term) → i < length more → t ≡ get_or more i t → new ≡ copies ++ u ∷ [] →
-    spine_of copies ≡ joined front (spine_of (take i more)) → term_of u ≡ term_of t → spine_of new ≡ joined front (spine_of (take (i + 1) more))
-term_copied front more copies new i t u within is pushed before here =
+pub term_copied : (prefix : Spine) (more copies new : List Term) (i : ℕ) (t u : Term) → i < length more → t ≡ get_or more i t → new ≡ copies ++ u ∷ [] →
+    spine_of copies ≡ joined prefix (spine_of (take i more)) → term_of u ≡ term_of t → spine_of new ≡ joined prefix (spine_of (take (i + 1) more))
+term_copied prefix more copies new i t u within is pushed before here =
     ap spine_of pushed ∙ spine_of-append copies u ∙ ap₂ (λ s x. joined s (arg x no_args)) before here
-    ∙ joined-joined front (spine_of (take i more)) (arg (term_of t) no_args) ∙ ap (joined front) (sym (take_more_spine more i t within is))
+    ∙ joined-joined prefix (spine_of (take i more)) (arg (term_of t) no_args) ∙ ap (joined prefix) (sym (take_more_spine more i t within is))

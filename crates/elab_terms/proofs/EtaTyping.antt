@@ -23,7 +23,7 @@ use Rattle.lf_definitions.proofs.TypedSpines.{rename_context-append}
 use Rattle.lf_definitions.proofs.ShapedGoals.{ShapedTyping-head, ShapedType-under_pis, ShapedContext-pis, shapes_of-under, ShapedTyping-with_variable, shapes_of-with_context}
 use Rattle.lf_definitions.proofs.Options.{Some-Some}
 use Rattle.elab_terms.specs.Terms.{expanded}
-use Rattle.elab_terms.specs.Knowing.{Founded}
+use Rattle.elab_terms.specs.KnownTypes.{Founded}
 
 -- One replacement keeps a head where another puts its eta-long form, or they do the same.
 data Near : Image → Image → SimpleType → Type 0 where
@@ -306,17 +306,17 @@ module _ (kinds : Kinds) (p : ℕ) (eta_typed : EtaTypedBelow kinds p) where
       let s = arrows (shapes_of_types cs) base in
       let sub = push_all ts stays in
       let size = shape_size (arrows (shapes_of_types first) base) in
-      let front = under_all (shapes_of_types first) (shapes_of Θ) in
-      let goes : Goes size front (shapes_of Θ) sub =
+      let prefix = under_all (shapes_of_types first) (shapes_of Θ) in
+      let goes : Goes size prefix (shapes_of Θ) sub =
       Goes-push_all size (shapes_of_types first) ts (shapes_of Θ) (shapes_of Θ) stays (Goes-stays size (shapes_of Θ)) (ShapedSpine-TypedSpine typed) (omega arith) in
-      let whole : ShapedType (shapes_of_kinds kinds) front (pis missing (family f args)) =
+      let whole : ShapedType (shapes_of_kinds kinds) prefix (pis missing (family f args)) =
       ShapedType-under_pis first (pis missing (family f args))
       (subst (ShapedType (shapes_of_kinds kinds) (shapes_of Θ)) (pis-append first missing (family f args)) (ShapedTyping-head kinds Θ good.shaped h (pis (first ++ missing) (family f args)) known)) in
       let shaped_cs : ShapedContext (shapes_of_kinds kinds) (shapes_of Θ) cs =
-      ShapedContext-pis cs end (subst (ShapedType (shapes_of_kinds kinds) (shapes_of Θ)) parts.2 (ShapedType-SubstitutedType size (shapes_of_kinds kinds) front (shapes_of Θ) sub goes whole result)) in
+      ShapedContext-pis cs end (subst (ShapedType (shapes_of_kinds kinds) (shapes_of Θ)) parts.2 (ShapedType-SubstitutedType size (shapes_of_kinds kinds) prefix (shapes_of Θ) sub goes whole result)) in
       let shape : shape_of b ≡ s = ap shape_of parts.2 ∙ shape_of-pis cs f results in
       let own : TypedSpine inside (raised n sub) (own_variables s) missing =
-      own_typed parts.3 front Θ good size goes (ShapedContext-pis missing (family f args) whole) shaped_cs (omega (arith, small, ap shape_size shape)) in
+      own_typed parts.3 prefix Θ good size goes (ShapedContext-pis missing (family f args) whole) shaped_cs (omega (arith, small, ap shape_size shape)) in
       let v = λ (i : ℕ). n + i in
       let same_renaming : variables v ≡ ξ = sym (fun_ext (outside n)) in
       let us = rename_spine ξ ts in
@@ -340,14 +340,14 @@ module _ (kinds : Kinds) (p : ℕ) (eta_typed : EtaTypedBelow kinds p) where
       let after = push_all (own_variables s) (push_all us stays) in
       let args_shaped = args_of_family (ShapedType-under_pis missing (family f args) whole) in
       let arity_missing : arity s ≡ length missing = arity_of cs ∙ same_length parts.3 in
-      let near : IsNear (under_all (arguments s) front) (up_by (arity s) sub) (λ g. after (ζ g)) =
-      near_all s front sub (push_all us stays) (lifted_by k ξ)
+      let near : IsNear (under_all (arguments s) prefix) (up_by (arity s) sub) (λ g. after (ζ g)) =
+      near_all s prefix sub (push_all us stays) (lifted_by k ξ)
       (λ g c e. near_same (ap (λ m. rename_image (next_by m) (sub g)) (arity_of cs) ∙ sym (follows g))) in
-      let scope : under_all (arguments s) front ≡ under_all (shapes_of_types missing) front =
-      ap (λ ss. under_all ss front) (arguments-arrows (shapes_of_types cs) ∙ same_shapes parts.3) in
-      let goes_inside : Goes size (under_all (arguments s) front) (under_all (arguments s) (shapes_of Θ)) (up_by (arity s) sub) =
-      subst (λ m. Goes size (under_all (arguments s) front) (under_all (arguments s) (shapes_of Θ)) (up_by m sub)) (arguments_count s)
-      (Goes-up_by size (arguments s) front (shapes_of Θ) sub goes) in
+      let scope : under_all (arguments s) prefix ≡ under_all (shapes_of_types missing) prefix =
+      ap (λ ss. under_all ss prefix) (arguments-arrows (shapes_of_types cs) ∙ same_shapes parts.3) in
+      let goes_inside : Goes size (under_all (arguments s) prefix) (under_all (arguments s) (shapes_of Θ)) (up_by (arity s) sub) =
+      subst (λ m. Goes size (under_all (arguments s) prefix) (under_all (arguments s) (shapes_of Θ)) (up_by m sub)) (arguments_count s)
+      (Goes-up_by size (arguments s) prefix (shapes_of Θ) sub goes) in
       let results_near : SubstitutedSpine (λ g. after (ζ g)) args results =
       near_args (subst (λ Δ. ShapedSpine Δ args args_shaped.0) (sym scope) args_shaped.1) size (under_all (arguments s) (shapes_of Θ)) (up_by (arity s) sub) (λ g. after (ζ g)) goes_inside near
       (subst (λ m. SubstitutedSpine (up_by m sub) args results) (sym arity_missing) parts.4) in

@@ -10,7 +10,7 @@ use Rattle.lf_definitions.proofs.Renaming.{same_head, lifted-same_head, rename_t
 use Rattle.lf_definitions.proofs.ShapedGoals.{ShapedTyping-family}
 use Rattle.file_trees.specs.declared.term_tree.TermTree.{TermTree}
 use Rattle.file_trees.specs.TermViews.{tree_of, trees_of}
-use Rattle.elab_terms.specs.Passing.{Domains}
+use Rattle.elab_terms.specs.Domains.{Domains}
 
 pub trees_of-take : (ts : List TermTree) (n : ℕ) → trees_of (take n ts) ≡ take n (trees_of ts)
 trees_of-take ts zero = refl

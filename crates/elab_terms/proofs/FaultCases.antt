@@ -11,7 +11,7 @@ use Rattle.file_trees.specs.Trees.{Tree, leaf, abstraction, Classifier}
 use Rattle.file_trees.specs.Trees as trees
 use Rattle.file_trees.specs.Places.{tree_place}
 use Rattle.elab_terms.specs.Applied.{IsApplied}
-use Rattle.elab_terms.specs.Names.{Text, text_at, binder_name, Bound, head_of}
+use Rattle.elab_terms.specs.Names.{Text, text_at, binder_name, Bound, named_head}
 use Rattle.elab_terms.specs.Names as names
 use Rattle.elab_terms.specs.Terms.{ReadsArguments, RefusesTerm, refuses_abstraction, refuses_body, refuses_redex, refuses_name, refuses_extra, refuses_in_argument, refuses_result, RefusesArguments}
 use Rattle.elab_terms.specs.Types.{IsBinder, ReadsType, RefusesType, refuses_binder, refuses_domain, refuses_rest, refuses_family, refuses_word, refuses_few, refuses_family_argument, refuses_family_extra}
@@ -43,17 +43,17 @@ fault_of_abstraction is (refuses_result binders Γ tree other arguments h first 
 
 -- A name that stands for no head.
 pub fault_of_name : {text : Text} {sig : LfSignature} {binders : Bound} {Γ : Typing} {tree : Tree} {span : Span} {arguments : List Tree} {wanted : LfType} {fault : ElabFault} →
-    IsApplied tree [] (leaf span) arguments → head_of sig binders (text_at text span) ≡ None → RefusesTerm text sig binders Γ tree wanted fault → fault ≡ Unknown span.start
+    IsApplied tree [] (leaf span) arguments → named_head sig binders (text_at text span) ≡ None → RefusesTerm text sig binders Γ tree wanted fault → fault ≡ Unknown span.start
 fault_of_name is none (refuses_abstraction binders Γ tree other more f args are) = absurd (leaf-abstraction is.0 are.0)
 fault_of_name is none (refuses_body binders Γ tree other more a c fault are refused) = absurd (leaf-abstraction is.0 are.0)
 fault_of_name is none (refuses_redex binders Γ tree argument other more arguments wanted are) = absurd (leaf-abstraction is.0 are.0)
 fault_of_name is none (refuses_name binders Γ tree other arguments wanted are nothing) = ap (λ s. Unknown s.start) (leaf_inj are.0 is.0)
 fault_of_name {text = text} {sig = sig} is none (refuses_extra binders Γ tree extra other arguments h domains f args wanted are resolved known there) =
-    absurd (None-Some none (ap (λ s. head_of sig binders (text_at text s)) (leaf_inj is.0 are.0) ∙ resolved))
+    absurd (None-Some none (ap (λ s. named_head sig binders (text_at text s)) (leaf_inj is.0 are.0) ∙ resolved))
 fault_of_name {text = text} {sig = sig} is none (refuses_in_argument binders Γ tree other arguments h domains f args wanted fault are resolved known few refused) =
-    absurd (None-Some none (ap (λ s. head_of sig binders (text_at text s)) (leaf_inj is.0 are.0) ∙ resolved))
+    absurd (None-Some none (ap (λ s. named_head sig binders (text_at text s)) (leaf_inj is.0 are.0) ∙ resolved))
 fault_of_name {text = text} {sig = sig} is none (refuses_result binders Γ tree other arguments h first missing f args ts found wanted are resolved known read result differ) =
-    absurd (None-Some none (ap (λ s. head_of sig binders (text_at text s)) (leaf_inj is.0 are.0) ∙ resolved))
+    absurd (None-Some none (ap (λ s. named_head sig binders (text_at text s)) (leaf_inj is.0 are.0) ∙ resolved))
 
 -- An application of a head, by the binders of its type.
 pub data FaultOfApplication (text : Text) (sig : LfSignature) (binders : Bound) (Γ : Typing) (tree : Tree) (arguments : List Tree) (domains : List LfType) (end wanted : LfType) :
@@ -68,13 +68,13 @@ pub data FaultOfApplication (text : Text) (sig : LfSignature) (binders : Bound) 
 
 pub fault_of_application : {text : Text} {sig : LfSignature} {binders : Bound} {Γ : Typing} {tree : Tree} {span : Span} {arguments : List Tree} {h : LfHead} {domains : List LfType} {f : ℕ} {args : Spine}
     {wanted : LfType} {fault : ElabFault} →
-    IsApplied tree [] (leaf span) arguments → head_of sig binders (text_at text span) ≡ Some h → Γ h ≡ Some (pis domains (family f args)) →
+    IsApplied tree [] (leaf span) arguments → named_head sig binders (text_at text span) ≡ Some h → Γ h ≡ Some (pis domains (family f args)) →
     RefusesTerm text sig binders Γ tree wanted fault → FaultOfApplication text sig binders Γ tree arguments domains (family f args) wanted fault
 fault_of_application is resolved known (refuses_abstraction binders Γ tree other more f args are) = absurd (leaf-abstraction is.0 are.0)
 fault_of_application is resolved known (refuses_body binders Γ tree other more a c fault are refused) = absurd (leaf-abstraction is.0 are.0)
 fault_of_application is resolved known (refuses_redex binders Γ tree argument other more arguments wanted are) = absurd (leaf-abstraction is.0 are.0)
 fault_of_application {text = text} {sig = sig} is resolved known (refuses_name binders Γ tree other others wanted are none) =
-    absurd (None-Some none (ap (λ s. head_of sig binders (text_at text s)) (leaf_inj are.0 is.0) ∙ resolved))
+    absurd (None-Some none (ap (λ s. named_head sig binders (text_at text s)) (leaf_inj are.0 is.0) ∙ resolved))
 fault_of_application {text = text} {sig = sig} {domains = domains} {f = f} {args = args} is resolved known
     (refuses_extra binders Γ tree extra other others k found g brgs wanted are same typed there) =
     let whole = same_known Γ (same_head text sig binders are.0 same is.0 resolved) typed known in

@@ -7,8 +7,8 @@ use Rattle.lf_definitions.proofs.Typing.{ShapedType-Formed}
 use Rattle.lf_definitions.proofs.Variables.{with_context-append}
 use Rattle.file_trees.specs.Trees.{Classifier, Binding, bind}
 use Rattle.elab_terms.specs.Names.{Text, Bound}
-use Rattle.elab_terms.specs.Fronts.{binding_place, domain_of, bound_of, OpensKind}
-use Rattle.elab_terms.specs.Knowing.{Founded, HaveTypes, KnownAt}
+use Rattle.elab_terms.specs.ReadBinders.{binding_place, domain_of, binding_name, OpensKind}
+use Rattle.elab_terms.specs.KnownTypes.{Founded, HaveTypes, KnownAt}
 use Rattle.elab_terms.specs.Types.{ReadsType, RefusesType, ReadsKind, reads_kind_binder, RefusesKind, refuses_kind_domain, refuses_kind_rest}
 use Rattle.elab_terms.specs.declared.elab_fault.ElabFault.{ElabFault}
 use Rattle.elab_terms.proofs.EtaTyping.{Founded-with_variable}
@@ -41,31 +41,31 @@ module _ (text : Text) (sig : LfSignature) (old now : Bound) (Γ : Typing) (befo
   kind_domain_refused fault refused last =
       opens.refuses last fault
       (subst (λ t. RefusesKind text sig now inside_typing t fault) (bind_cons binding rest last)
-      (refuses_kind_domain now inside_typing (binding_place binding) (bind (binding ∷ []) (bind rest last)) (domain_of binding) (bind rest last) (bound_of text binding) fault (is_binder text binding (bind rest last)) refused))
+      (refuses_kind_domain now inside_typing (binding_place binding) (bind (binding ∷ []) (bind rest last)) (domain_of binding) (bind rest last) (binding_name text binding) fault (is_binder text binding (bind rest last)) refused))
 
   -- one more
-  pub opens_more_kind : (a : LfType) → ReadsType text sig now inside_typing 0 (domain_of binding) a → OpensKind text sig old (bound_of text binding ∷ now) Γ before (after ++ a ∷ []) whole rest
+  pub opens_more_kind : (a : LfType) → ReadsType text sig now inside_typing 0 (domain_of binding) a → OpensKind text sig old (binding_name text binding ∷ now) Γ before (after ++ a ∷ []) whole rest
   opens_more_kind a read =
       let typing : with_context (after ++ a ∷ []) Γ ≡ with_variable a inside_typing = with_context-append after (a ∷ []) Γ in
       let isb = λ (last : Classifier). is_binder text binding (bind rest last) in
       let founded = Founded-with_variable (kinds_in sig) inside_typing a opens.known.founded (ShapedType-Formed (Formed-ReadsType read opens.known.founded)) in record {
         added = opens.added ++ a ∷ [];
-        inside = bound_of text binding ∷ opens.inside;
+        inside = binding_name text binding ∷ opens.inside;
         types_are = ap (λ xs. xs ++ a ∷ []) opens.types_are ∙ append_assoc before opens.added (a ∷ []);
-        names_are = ap (λ ns. bound_of text binding ∷ ns) opens.names_are;
+        names_are = ap (λ ns. binding_name text binding ∷ ns) opens.names_are;
         known = record {
           founded = subst (Founded (kinds_in sig)) (sym typing) founded;
-          have_types = subst (HaveTypes (bound_of text binding ∷ now)) (sym typing) (have_types_under now (bound_of text binding) inside_typing a opens.known.have_types);
+          have_types = subst (HaveTypes (binding_name text binding ∷ now)) (sym typing) (have_types_under now (binding_name text binding) inside_typing a opens.known.have_types);
         };
         reads = λ last kind more.
             subst (ReadsKind text sig old (with_context before Γ) (bind whole last)) (sym (append_assoc opens.added (a ∷ []) kind))
             (opens.reads last (a ∷ kind)
             (subst (λ t. ReadsKind text sig now inside_typing t (a ∷ kind)) (bind_cons binding rest last)
-            (reads_kind_binder now inside_typing (binding_place binding) (bind (binding ∷ []) (bind rest last)) (domain_of binding) (bind rest last) (bound_of text binding) a kind (isb last) read
-            (subst (λ θ. ReadsKind text sig (bound_of text binding ∷ now) θ (bind rest last) kind) typing more))));
+            (reads_kind_binder now inside_typing (binding_place binding) (bind (binding ∷ []) (bind rest last)) (domain_of binding) (bind rest last) (binding_name text binding) a kind (isb last) read
+            (subst (λ θ. ReadsKind text sig (binding_name text binding ∷ now) θ (bind rest last) kind) typing more))));
         refuses = λ last fault refused.
             opens.refuses last fault
             (subst (λ t. RefusesKind text sig now inside_typing t fault) (bind_cons binding rest last)
-            (refuses_kind_rest now inside_typing (binding_place binding) (bind (binding ∷ []) (bind rest last)) (domain_of binding) (bind rest last) (bound_of text binding) a fault (isb last) read
-            (subst (λ θ. RefusesKind text sig (bound_of text binding ∷ now) θ (bind rest last) fault) typing refused)));
+            (refuses_kind_rest now inside_typing (binding_place binding) (bind (binding ∷ []) (bind rest last)) (domain_of binding) (bind rest last) (binding_name text binding) a fault (isb last) read
+            (subst (λ θ. RefusesKind text sig (binding_name text binding ∷ now) θ (bind rest last) fault) typing refused)));
       }

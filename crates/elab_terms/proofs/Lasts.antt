@@ -5,7 +5,7 @@ use Rattle.file_trees.specs.declared.type_tree.Binder.{Binder}
 use Rattle.file_trees.specs.declared.type_tree.Last.{Last}
 use Rattle.file_trees.specs.declared.type_tree.Last.TheVariants.{Fam, Star, Group}
 use Rattle.file_trees.specs.TypeViews.{binding_of, bindings_of, last_of, IsLast}
-use Rattle.elab_terms.specs.Fronts.{domain_of}
+use Rattle.elab_terms.specs.ReadBinders.{domain_of}
 use Rattle.elab_terms.proofs.Openings.{classifier_size-bind}
 
 abbrev pub last_measure : Last → ℕ

@@ -9,8 +9,8 @@ use Rattle.lf_terms.proofs.TypeLists.{pis-append}
 use Rattle.file_trees.specs.Trees.{Classifier, Binding, pi_of, arrow_of, bind, classifier_size, bindings_size}
 use Rattle.file_trees.specs.Trees as trees
 use Rattle.elab_terms.specs.Names.{Text, Bound}
-use Rattle.elab_terms.specs.Fronts.{binding_place, domain_of, bound_of, Opens}
-use Rattle.elab_terms.specs.Knowing.{Founded, HaveTypes, KnownAt}
+use Rattle.elab_terms.specs.ReadBinders.{binding_place, domain_of, binding_name, Opens}
+use Rattle.elab_terms.specs.KnownTypes.{Founded, HaveTypes, KnownAt}
 use Rattle.elab_terms.specs.Types.{IsBinder, pi_binder, arrow_binder, ReadsType, reads_binder, RefusesType, refuses_binder, refuses_domain, refuses_rest}
 use Rattle.elab_terms.specs.declared.elab_fault.ElabFault.{ElabFault}
 use Rattle.elab_terms.specs.declared.elab_fault.ElabFault.TheVariants.{TooMany}
@@ -29,7 +29,7 @@ some_size (trees.arrow left right) = omega arith
 some_size (trees.family span arguments) = omega arith
 some_size (trees.star span) = omega arith
 
-pub is_binder : (text : Text) (binding : Binding) (rest : Classifier) → IsBinder text (bind (binding ∷ []) rest) (binding_place binding) (domain_of binding) rest (bound_of text binding)
+pub is_binder : (text : Text) (binding : Binding) (rest : Classifier) → IsBinder text (bind (binding ∷ []) rest) (binding_place binding) (domain_of binding) rest (binding_name text binding)
 is_binder text (pi_of span domain) rest = pi_binder span domain rest
 is_binder text (arrow_of left) rest = arrow_binder left rest
 
@@ -62,41 +62,41 @@ module _ (text : Text) (sig : LfSignature) (old now : Bound) (Γ : Typing) (befo
   too_many many last =
       opens.refuses last (TooMany (binding_place binding))
       (subst (λ t. RefusesType text sig now inside_typing (length after) t (TooMany (binding_place binding))) (bind_cons binding rest last)
-      (refuses_binder now inside_typing (length after) (binding_place binding) (bind (binding ∷ []) (bind rest last)) (domain_of binding) (bind rest last) (bound_of text binding) (is_binder text binding (bind rest last)) many))
+      (refuses_binder now inside_typing (length after) (binding_place binding) (bind (binding ∷ []) (bind rest last)) (domain_of binding) (bind rest last) (binding_name text binding) (is_binder text binding (bind rest last)) many))
 
   pub domain_refused : length after < 1000 → (fault : ElabFault) → RefusesType text sig now inside_typing 0 (domain_of binding) fault → (last : Classifier) →
       RefusesType text sig old (with_context before Γ) (length before) (bind whole last) fault
   domain_refused few fault refused last =
       opens.refuses last fault
       (subst (λ t. RefusesType text sig now inside_typing (length after) t fault) (bind_cons binding rest last)
-      (refuses_domain now inside_typing (length after) (binding_place binding) (bind (binding ∷ []) (bind rest last)) (domain_of binding) (bind rest last) (bound_of text binding) fault (is_binder text binding (bind rest last)) few refused))
+      (refuses_domain now inside_typing (length after) (binding_place binding) (bind (binding ∷ []) (bind rest last)) (domain_of binding) (bind rest last) (binding_name text binding) fault (is_binder text binding (bind rest last)) few refused))
 
   -- one more
-  pub opens_more : length after < 1000 → (a : LfType) → ReadsType text sig now inside_typing 0 (domain_of binding) a → Opens text sig old (bound_of text binding ∷ now) Γ before (after ++ a ∷ []) whole rest
+  pub opens_more : length after < 1000 → (a : LfType) → ReadsType text sig now inside_typing 0 (domain_of binding) a → Opens text sig old (binding_name text binding ∷ now) Γ before (after ++ a ∷ []) whole rest
   opens_more few a read =
       let typing : with_context (after ++ a ∷ []) Γ ≡ with_variable a inside_typing = with_context-append after (a ∷ []) Γ in
       let count : length (after ++ a ∷ []) ≡ suc (length after) = omega (arith, length-append after (a ∷ [])) in
       let isb = λ (last : Classifier). is_binder text binding (bind rest last) in
       let founded = Founded-with_variable (kinds_in sig) inside_typing a opens.known.founded (ShapedType-Formed (Formed-ReadsType read opens.known.founded)) in record {
         added = opens.added ++ a ∷ [];
-        inside = bound_of text binding ∷ opens.inside;
+        inside = binding_name text binding ∷ opens.inside;
         types_are = ap (λ xs. xs ++ a ∷ []) opens.types_are ∙ append_assoc before opens.added (a ∷ []);
-        names_are = ap (λ ns. bound_of text binding ∷ ns) opens.names_are;
+        names_are = ap (λ ns. binding_name text binding ∷ ns) opens.names_are;
         known = record {
           founded = subst (Founded (kinds_in sig)) (sym typing) founded;
-          have_types = subst (HaveTypes (bound_of text binding ∷ now)) (sym typing) (have_types_under now (bound_of text binding) inside_typing a opens.known.have_types);
+          have_types = subst (HaveTypes (binding_name text binding ∷ now)) (sym typing) (have_types_under now (binding_name text binding) inside_typing a opens.known.have_types);
         };
         reads = λ last b more.
             subst (ReadsType text sig old (with_context before Γ) (length before) (bind whole last)) (sym (pis-append opens.added a b))
             (opens.reads last (pi a b)
             (subst (λ t. ReadsType text sig now inside_typing (length after) t (pi a b)) (bind_cons binding rest last)
-            (reads_binder now inside_typing (length after) (binding_place binding) (bind (binding ∷ []) (bind rest last)) (domain_of binding) (bind rest last) (bound_of text binding) a b (isb last) few read
-            (subst₂ (λ θ n. ReadsType text sig (bound_of text binding ∷ now) θ n (bind rest last) b) typing count more))));
+            (reads_binder now inside_typing (length after) (binding_place binding) (bind (binding ∷ []) (bind rest last)) (domain_of binding) (bind rest last) (binding_name text binding) a b (isb last) few read
+            (subst₂ (λ θ n. ReadsType text sig (binding_name text binding ∷ now) θ n (bind rest last) b) typing count more))));
         refuses = λ last fault refused.
             opens.refuses last fault
             (subst (λ t. RefusesType text sig now inside_typing (length after) t fault) (bind_cons binding rest last)
-            (refuses_rest now inside_typing (length after) (binding_place binding) (bind (binding ∷ []) (bind rest last)) (domain_of binding) (bind rest last) (bound_of text binding) a fault (isb last) few read
-            (subst₂ (λ θ n. RefusesType text sig (bound_of text binding ∷ now) θ n (bind rest last) fault) typing count refused)));
+            (refuses_rest now inside_typing (length after) (binding_place binding) (bind (binding ∷ []) (bind rest last)) (domain_of binding) (bind rest last) (binding_name text binding) a fault (isb last) few read
+            (subst₂ (λ θ n. RefusesType text sig (binding_name text binding ∷ now) θ n (bind rest last) fault) typing count refused)));
       }
 
 pub past_all : (bindings : List Binding) (i : ℕ) → length bindings ≤ i → drop i bindings ≡ []

@@ -10,7 +10,7 @@ use Rattle.lf_definitions.proofs.Options.{Some_inj}
 use Rattle.file_trees.specs.declared.span.Span.{Span}
 use Rattle.file_trees.specs.Trees.{Tree, leaf, abstraction, Classifier}
 use Rattle.file_trees.specs.Trees as trees
-use Rattle.elab_terms.specs.Names.{Text, text_at, binder_name, Bound, head_of}
+use Rattle.elab_terms.specs.Names.{Text, text_at, binder_name, Bound, named_head}
 use Rattle.elab_terms.specs.Terms.{expanded, ReadsTerm, reads_abstraction, reads_application, ReadsArguments, reads_none, reads_argument}
 use Rattle.elab_terms.specs.Types.{IsBinder, pi_binder, arrow_binder, ReadsType, reads_binder, reads_family, ReadsKind, reads_type_word, reads_kind_binder}
 
@@ -28,9 +28,9 @@ pub abstraction_body : {tree : Tree} {span other : Span} {body more : Tree} → 
 abstraction_body e f = cc
 
 -- A name's head is one, and so is its type.
-pub same_head : (text : Text) (sig : LfSignature) (binders : Bound) {tree : Tree} {span other : Span} {h k : LfHead} → tree ≡ leaf span → head_of sig binders (text_at text span) ≡ Some h →
-    tree ≡ leaf other → head_of sig binders (text_at text other) ≡ Some k → h ≡ k
-same_head text sig binders e resolved f found = Some_inj resolved (ap (λ s. head_of sig binders (text_at text s)) (leaf_inj e f) ∙ found)
+pub same_head : (text : Text) (sig : LfSignature) (binders : Bound) {tree : Tree} {span other : Span} {h k : LfHead} → tree ≡ leaf span → named_head sig binders (text_at text span) ≡ Some h →
+    tree ≡ leaf other → named_head sig binders (text_at text other) ≡ Some k → h ≡ k
+same_head text sig binders e resolved f found = Some_inj resolved (ap (λ s. named_head sig binders (text_at text s)) (leaf_inj e f) ∙ found)
 
 pub same_known : (Γ : Typing) {h k : LfHead} {a b : LfType} → h ≡ k → Γ h ≡ Some a → Γ k ≡ Some b → a ≡ b
 same_known Γ same e f = Some_inj e (ap Γ same ∙ f)

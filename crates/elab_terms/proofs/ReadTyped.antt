@@ -19,7 +19,7 @@ use Rattle.file_trees.specs.Trees.{Tree, Classifier}
 use Rattle.elab_terms.specs.Names.{Text, Bound}
 use Rattle.elab_terms.specs.Terms.{ReadsTerm, reads_abstraction, reads_application, ReadsArguments, reads_none, reads_argument}
 use Rattle.elab_terms.specs.Types.{ReadsType, reads_binder, reads_family, ReadsKind, reads_type_word, reads_kind_binder}
-use Rattle.elab_terms.specs.Knowing.{Founded}
+use Rattle.elab_terms.specs.KnownTypes.{Founded}
 use Rattle.elab_terms.proofs.EtaTyping.{Founded-with_variable, expanded_typed}
 
 shaped_first : {kinds : ℕ → Option SimpleType} {Γ : Scope} (first missing : Context) → ShapedContext kinds Γ (first ++ missing) → ShapedContext kinds Γ first

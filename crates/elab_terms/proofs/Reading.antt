@@ -21,7 +21,7 @@ use Rattle.lf_terms.specs.declared.ty.Ty.{Ty}
 use Rattle.lf_terms.specs.Types.{type_of, types_of}
 use Rattle.basics.specs.Places.{place_of}
 use Rattle.lf_kernel.specs.declared.head_type.HeadType.{HeadType}
-use Rattle.lf_kernel.specs.declared.scope.Scope as places
+use Rattle.lf_kernel.specs.declared.local_context.LocalContext as places
 use Rattle.lf_kernel.proofs.Heads.{typing_under-constant}
 use Rattle.file_trees.specs.declared.span.Span.{Span}
 use Rattle.file_trees.specs.Trees.{Tree, leaf, abstraction}
@@ -29,7 +29,7 @@ use Rattle.file_trees.specs.Places.{tree_place}
 use Rattle.elab_terms.specs.Applied.{base_of, arguments_of}
 use Rattle.elab_terms.specs.Names.{Text, text_at, binder_name, Bound, variable_of, head_or}
 use Rattle.elab_terms.specs.Names as names
-use Rattle.elab_terms.specs.Knowing.{Founded, HaveTypes, typing_of, KnownAt, IsWanted, IsRefusal}
+use Rattle.elab_terms.specs.KnownTypes.{Founded, HaveTypes, typing_of, KnownAt, IsWanted, IsRefusal}
 use Rattle.elab_terms.specs.Terms.{expanded, ReadsTerm, reads_abstraction, reads_application, ReadsArguments, reads_none, reads_argument, RefusesTerm, refuses_abstraction, refuses_body, refuses_redex, refuses_result, RefusesArguments, refuses_here, refuses_later}
 use Rattle.elab_terms.specs.declared.elab_fault.ElabFault.{ElabFault}
 use Rattle.elab_terms.specs.declared.elab_fault.ElabFault.TheVariants.{Taken, TooMany, Unknown, Redex, IllTyped, BadRule, NoMemory}
@@ -145,7 +145,7 @@ some_type (a ∷ types) (suc c) within = some_type types c (omega arith)
 abbrev HasType : Typing → LfHead → Type 0
 HasType Γ h = (a : LfType) × (Γ h ≡ Some a)
 
-pub head_typed : (sig : LfSignature) (scope : places.Scope) (binders : Bound) (name : List ℕ) (h : LfHead) → KnownAt sig (typing_of sig scope) binders → names.head_of sig binders name ≡ Some h → HasType (typing_of sig scope) h
+pub head_typed : (sig : LfSignature) (scope : places.LocalContext) (binders : Bound) (name : List ℕ) (h : LfHead) → KnownAt sig (typing_of sig scope) binders → names.head_of sig binders name ≡ Some h → HasType (typing_of sig scope) h
 head_typed sig scope binders name h known e = by_variable (variable_of binders name) refl
   where
     Γ : Typing
@@ -203,12 +203,12 @@ take_next (y ∷ xs) (suc i) x e =
     let count : suc i + 1 ≡ suc (i + 1) = omega arith in
     ap (λ n. take n (y ∷ xs)) count ∙ ap (λ rest. y ∷ rest) (take_next xs i x e)
 
-shaped_front : {kinds : ℕ → Option SimpleType} {Γ : Scope} (front more : Context) → ShapedContext kinds Γ (front ++ more) → ShapedContext kinds Γ front
-shaped_front [] more p = shaped_empty
-shaped_front (a ∷ front) more (shaped_entry p ps) = shaped_entry p (shaped_front front more ps)
+shaped_prefix : {kinds : ℕ → Option SimpleType} {Γ : Scope} (prefix more : Context) → ShapedContext kinds Γ (prefix ++ more) → ShapedContext kinds Γ prefix
+shaped_prefix [] more p = shaped_empty
+shaped_prefix (a ∷ prefix) more (shaped_entry p ps) = shaped_entry p (shaped_prefix prefix more ps)
 
 pub shaped_take : (kinds : ℕ → Option SimpleType) (Γ : Scope) (ctx : Context) (n : ℕ) → ShapedContext kinds Γ ctx → ShapedContext kinds Γ (take n ctx)
-shaped_take kinds Γ ctx n shaped = shaped_front (take n ctx) (drop n ctx) (subst (ShapedContext kinds Γ) (sym (take-append-drop n ctx)) shaped)
+shaped_take kinds Γ ctx n shaped = shaped_prefix (take n ctx) (drop n ctx) (subst (ShapedContext kinds Γ) (sym (take-append-drop n ctx)) shaped)
 
 pub take-rename_context : (n : ℕ) (ctx : Context) (ξ : Renaming) → take n (rename_context ξ ctx) ≡ rename_context ξ (take n ctx)
 take-rename_context zero ctx ξ = refl

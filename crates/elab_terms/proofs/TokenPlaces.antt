@@ -5,7 +5,7 @@ use Rattle.lex_text.specs.declared.token.Token.{Token}
 use Rattle.lex_text.specs.Tokens.{TokensOf, text_of}
 use Rattle.lex_text.proofs.Order.{StandInOrder, TokensOf-within}
 use Rattle.elab_terms.specs.Names.{text_after, first_text}
-use Rattle.elab_terms.specs.Sources.{AreBefore}
+use Rattle.elab_terms.specs.FileTexts.{AreBefore}
 
 starts_after : (from end : ℕ) (tokens : List Token) → StandInOrder from tokens end → (k : ℕ) (d : Token) → k < length tokens → from ≤ (get_or tokens k d).start
 starts_after from end [] order k d within = absurd (omega arith)

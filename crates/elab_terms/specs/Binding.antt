@@ -3,7 +3,7 @@ use Rattle.std.specs.Prelude.{◌≡◌, ℕ, ◌<◌, ◌^◌, List, [], ◌∷
 use Rattle.std.specs.Str.{bytes_eq}
 use Rattle.basics.specs.Places.{place_of}
 use Rattle.elab_terms.specs.Names.{Bound}
-use Rattle.elab_terms.specs.declared.binders.Named.{Named}
+use Rattle.elab_terms.specs.declared.bound_names.Named.{Named}
 
 -- the binders, inside those outside
 abbrev pub bound_from : List (Option (List ℕ)) → Bound → Bound

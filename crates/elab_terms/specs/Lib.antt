@@ -3,8 +3,8 @@ pub mod Applied
 pub mod Terms
 pub mod Types
 pub mod Laws
-pub mod Sources
+pub mod FileTexts
 pub mod Binding
-pub mod Knowing
-pub mod Passing
-pub mod Fronts
+pub mod KnownTypes
+pub mod Domains
+pub mod ReadBinders

@@ -26,7 +26,7 @@ abbrev pub text_after : List ℕ → List Token → ℕ → Option (List ℕ)
 text_after bytes [] place = None
 text_after bytes (opening ∷ rest) place = if nat_eq opening.start place then first_text bytes rest else text_after bytes rest place
 
--- The name that a binder binds stands after the sign that opens it.
+-- The name that a binder binds stands after the terminal that opens it.
 abbrev pub binder_name : Text → Span → Option (List ℕ)
 binder_name text span = text_after text.bytes text.tokens span.start
 
@@ -45,8 +45,8 @@ head_or other None = other
 head_or other (Some n) = Some (bound n)
 
 -- In a term a name is that of the innermost binder that has it, or else of a constant.
-abbrev pub head_of : LfSignature → Bound → List ℕ → Option LfHead
-head_of sig binders name = head_or (option_map constant (place_of (constant_names sig) name)) (variable_of binders name)
+abbrev pub named_head : LfSignature → Bound → List ℕ → Option LfHead
+named_head sig binders name = head_or (option_map constant (place_of (constant_names sig) name)) (variable_of binders name)
 
 -- nothing where it is a variable's
 abbrev pub family_or : Option ℕ → Option ℕ → Option ℕ

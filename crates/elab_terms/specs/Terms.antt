@@ -10,7 +10,7 @@ use Rattle.file_trees.specs.declared.span.Span.{Span}
 use Rattle.file_trees.specs.Trees.{Tree, leaf, abstraction}
 use Rattle.file_trees.specs.Places.{tree_place}
 use Rattle.elab_terms.specs.Applied.{IsApplied}
-use Rattle.elab_terms.specs.Names.{Text, text_at, binder_name, Bound, head_of}
+use Rattle.elab_terms.specs.Names.{Text, text_at, binder_name, Bound, named_head}
 use Rattle.elab_terms.specs.declared.elab_fault.ElabFault.{ElabFault}
 use Rattle.elab_terms.specs.declared.elab_fault.ElabFault.TheVariants.{Unknown, Redex, IllTyped}
 
@@ -27,7 +27,7 @@ mutual
     -- An application of a name: the arguments are read at the first binders of its type, and what remains of that is the type that is wanted.
     reads_application : (binders : Bound) (Γ : Typing) (tree : Tree) (span : Span) (arguments : List Tree) (h : LfHead) (first missing : List LfType) (f : ℕ)
         (args ts : Spine) (wanted : LfType) →
-        IsApplied tree [] (leaf span) arguments → head_of sig binders (text_at text span) ≡ Some h → Γ h ≡ Some (pis (first ++ missing) (family f args)) →
+        IsApplied tree [] (leaf span) arguments → named_head sig binders (text_at text span) ≡ Some h → Γ h ≡ Some (pis (first ++ missing) (family f args)) →
         ReadsArguments text sig binders Γ stays arguments first ts → SubstitutedType (push_all ts stays) (pis missing (family f args)) wanted →
         ReadsTerm text sig binders Γ tree wanted (expanded h ts (shape_of wanted))
 
@@ -51,22 +51,22 @@ mutual
         IsApplied tree [] (abstraction span body) (argument ∷ arguments) → RefusesTerm text sig binders Γ tree wanted (Redex span.start)
     -- a name that is no variable and no constant
     refuses_name : (binders : Bound) (Γ : Typing) (tree : Tree) (span : Span) (arguments : List Tree) (wanted : LfType) →
-        IsApplied tree [] (leaf span) arguments → head_of sig binders (text_at text span) ≡ None → RefusesTerm text sig binders Γ tree wanted (Unknown span.start)
+        IsApplied tree [] (leaf span) arguments → named_head sig binders (text_at text span) ≡ None → RefusesTerm text sig binders Γ tree wanted (Unknown span.start)
     -- more arguments than the head's type has binders
     refuses_extra : (binders : Bound) (Γ : Typing) (tree extra : Tree) (span : Span) (arguments : List Tree) (h : LfHead) (domains : List LfType) (f : ℕ) (args : Spine)
         (wanted : LfType) →
-        IsApplied tree [] (leaf span) arguments → head_of sig binders (text_at text span) ≡ Some h → Γ h ≡ Some (pis domains (family f args)) →
+        IsApplied tree [] (leaf span) arguments → named_head sig binders (text_at text span) ≡ Some h → Γ h ≡ Some (pis domains (family f args)) →
         slice_get arguments (length domains) ≡ Some extra → RefusesTerm text sig binders Γ tree wanted (IllTyped (tree_place extra))
     -- the first argument that is refused
     refuses_in_argument : (binders : Bound) (Γ : Typing) (tree : Tree) (span : Span) (arguments : List Tree) (h : LfHead) (domains : List LfType) (f : ℕ) (args : Spine)
         (wanted : LfType) (fault : ElabFault) →
-        IsApplied tree [] (leaf span) arguments → head_of sig binders (text_at text span) ≡ Some h → Γ h ≡ Some (pis domains (family f args)) →
+        IsApplied tree [] (leaf span) arguments → named_head sig binders (text_at text span) ≡ Some h → Γ h ≡ Some (pis domains (family f args)) →
         length arguments ≤ length domains → RefusesArguments text sig binders Γ stays arguments domains fault →
         RefusesTerm text sig binders Γ tree wanted fault
     -- another type than the one that is wanted
     refuses_result : (binders : Bound) (Γ : Typing) (tree : Tree) (span : Span) (arguments : List Tree) (h : LfHead) (first missing : List LfType) (f : ℕ)
         (args ts : Spine) (found wanted : LfType) →
-        IsApplied tree [] (leaf span) arguments → head_of sig binders (text_at text span) ≡ Some h → Γ h ≡ Some (pis (first ++ missing) (family f args)) →
+        IsApplied tree [] (leaf span) arguments → named_head sig binders (text_at text span) ≡ Some h → Γ h ≡ Some (pis (first ++ missing) (family f args)) →
         ReadsArguments text sig binders Γ stays arguments first ts → SubstitutedType (push_all ts stays) (pis missing (family f args)) found → found ≢ wanted →
         RefusesTerm text sig binders Γ tree wanted (IllTyped (tree_place tree))
 

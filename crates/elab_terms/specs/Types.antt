@@ -1,5 +1,6 @@
 -- Reading a type or a kind: what it is, or the first thing that is wrong with it.
 use Rattle.std.specs.Prelude.{◌≡◌, ℕ, suc, ◌<◌, ◌≤◌, List, [], ◌∷◌, length, take, Option, Some, None, slice_get}
+use Rattle.basics.specs.Limits.{most_binders}
 use Rattle.lf_definitions.specs.Syntax.{LfType, LfKind, Spine, pi, family}
 use Rattle.lf_definitions.specs.Substitution.{stays}
 use Rattle.lf_definitions.specs.Typing.{Typing, with_variable}
@@ -29,7 +30,7 @@ pub data IsBinder (text : Text) : Classifier → ℕ → Classifier → Classifi
 -- `count` binders of the type stand before.
 pub data ReadsType (text : Text) (sig : LfSignature) : Bound → Typing → (count : ℕ) → Classifier → LfType → Type 0 where
   reads_binder : (binders : Bound) (Γ : Typing) (count place : ℕ) (whole domain rest : Classifier) (name : Option (List ℕ)) (a b : LfType) →
-      IsBinder text whole place domain rest name → count < 1000 → ReadsType text sig binders Γ 0 domain a →
+      IsBinder text whole place domain rest name → count < most_binders → ReadsType text sig binders Γ 0 domain a →
       ReadsType text sig (name ∷ binders) (with_variable a Γ) (suc count) rest b → ReadsType text sig binders Γ count whole (pi a b)
   reads_family : (binders : Bound) (Γ : Typing) (count : ℕ) (span : Span) (arguments : List Tree) (f : ℕ) (domains : LfKind) (ts : Spine) →
       family_of sig binders (text_at text span) ≡ Some f → kinds_in sig f ≡ Some domains → ReadsArguments text sig binders Γ stays arguments domains ts →
@@ -38,11 +39,11 @@ pub data ReadsType (text : Text) (sig : LfSignature) : Bound → Typing → (cou
 pub data RefusesType (text : Text) (sig : LfSignature) : Bound → Typing → (count : ℕ) → Classifier → ElabFault → Type 0 where
   -- a binder beyond 1,000
   refuses_binder : (binders : Bound) (Γ : Typing) (count place : ℕ) (whole domain rest : Classifier) (name : Option (List ℕ)) →
-      IsBinder text whole place domain rest name → 1000 ≤ count → RefusesType text sig binders Γ count whole (TooMany place)
+      IsBinder text whole place domain rest name → most_binders ≤ count → RefusesType text sig binders Γ count whole (TooMany place)
   refuses_domain : (binders : Bound) (Γ : Typing) (count place : ℕ) (whole domain rest : Classifier) (name : Option (List ℕ)) (fault : ElabFault) →
-      IsBinder text whole place domain rest name → count < 1000 → RefusesType text sig binders Γ 0 domain fault → RefusesType text sig binders Γ count whole fault
+      IsBinder text whole place domain rest name → count < most_binders → RefusesType text sig binders Γ 0 domain fault → RefusesType text sig binders Γ count whole fault
   refuses_rest : (binders : Bound) (Γ : Typing) (count place : ℕ) (whole domain rest : Classifier) (name : Option (List ℕ)) (a : LfType) (fault : ElabFault) →
-      IsBinder text whole place domain rest name → count < 1000 → ReadsType text sig binders Γ 0 domain a →
+      IsBinder text whole place domain rest name → count < most_binders → ReadsType text sig binders Γ 0 domain a →
       RefusesType text sig (name ∷ binders) (with_variable a Γ) (suc count) rest fault → RefusesType text sig binders Γ count whole fault
   -- a name that is no family, or that a binder hides
   refuses_family : (binders : Bound) (Γ : Typing) (count : ℕ) (span : Span) (arguments : List Tree) →

@@ -3,12 +3,12 @@
 ghost use Rattle.std.specs.Prelude.{◌≡◌, option_copied};
 ghost use Rattle.lex_text.specs.Tokens.{TokensOf};
 ghost use Rattle.file_trees.specs.TypeViews.{binding_of};
-ghost use Rattle.elab_terms.specs.Fronts.{domain_of, bound_of};
-ghost use Rattle.elab_terms.specs.Fronts as fronts;
-ghost use Rattle.elab_terms.specs.Sources.{text_in};
+ghost use Rattle.elab_terms.specs.ReadBinders.{domain_of, binding_name};
+ghost use Rattle.elab_terms.specs.ReadBinders as prefixes;
+ghost use Rattle.elab_terms.specs.FileTexts.{text_in};
 ghost use Rattle.elab_terms.specs.Types.{classifier_place};
 
-use crate::source::{Source, binder};
+use crate::file_text::{FileText, binder};
 use file_trees::{Binder, Last, TypeTree};
 
 /// The place of a type: its first brace, or that of the left side of its arrow, or its family's name.
@@ -31,7 +31,7 @@ pub fn type_place(tree: &TypeTree) -> u32
 /// The place at which a binder is refused where it is one too many.
 #[cycle(type_place)]
 pub fn binding_place(binding: &Binder) -> u32
-    ensures { result ≡ fronts.binding_place (binding_of binding.now) }
+    ensures { result ≡ prefixes.binding_place (binding_of binding.now) }
 {
     match binding {
         Binder::Pi(span, _) => span.start,
@@ -50,9 +50,9 @@ pub fn domain(binding: &Binder) -> &TypeTree
 }
 
 /// The name that a binder binds.
-pub fn bound_name<'a>(source: &Source<'a>, binding: &Binder) -> Option<&'a [u8]>
+pub fn bound_name<'a>(source: &FileText<'a>, binding: &Binder) -> Option<&'a [u8]>
     requires { TokensOf source.now.bytes.now source.now.tokens.now }
-    ensures { option_copied result ≡ bound_of (text_in source.now) (binding_of binding.now) }
+    ensures { option_copied result ≡ binding_name (text_in source.now) (binding_of binding.now) }
 {
     match binding {
         Binder::Pi(span, _) => binder(source, *span),

@@ -5,24 +5,24 @@ ghost use Rattle.lf_definitions.specs.Signatures.{kinds_in, typing_in};
 ghost use Rattle.lf_definitions.specs.Typing.{Formed, FormedKind};
 ghost use Rattle.lex_text.specs.Tokens.{TokensOf};
 ghost use Rattle.lf_terms.specs.Types.{type_of};
-ghost use Rattle.elab_terms.specs.Knowing.{IsRefusal};
-ghost use Rattle.elab_terms.specs.Sources.{text_in};
+ghost use Rattle.elab_terms.specs.KnownTypes.{IsRefusal};
+ghost use Rattle.elab_terms.specs.FileTexts.{text_in};
 ghost use Rattle.elab_terms.specs.Types.{ReadsType, RefusesType, ReadsKind, RefusesKind};
 
-use crate::binders::Binders;
+use crate::bound_names::BoundNames;
 use crate::elab_fault::ElabFault;
 use crate::read_kind::read_kind;
 use crate::read_type::read_type;
-use crate::source::Source;
+use crate::file_text::FileText;
 use file_trees::TypeTree;
-use lf_kernel::scope::Scope;
+use lf_kernel::local_context::LocalContext;
 use lf_terms::{GoalList, Kind, Signature, Ty};
 use std::alloc::Global;
 
 /// Reads a type with no variables around it. It is well formed.
 pub fn closed_type(
     alloc: Global,
-    source: &Source<'_>,
+    source: &FileText<'_>,
     sig: &Signature,
     tree: &TypeTree,
 ) -> Result<Ty, ElabFault>
@@ -33,8 +33,8 @@ pub fn closed_type(
 {
     sig.is_formed();
     let metas = GoalList::new(alloc);
-    let mut names = Binders::new(alloc);
-    match read_type(alloc, source, sig, &metas, &mut names, &Scope::Closed, tree) {
+    let mut names = BoundNames::new(alloc);
+    match read_type(alloc, source, sig, &metas, &mut names, &LocalContext::Closed, tree) {
         Err(fault) => Err(fault),
         Ok(ty) => Ok(ty),
     }
@@ -43,7 +43,7 @@ pub fn closed_type(
 /// Reads a kind. It is well formed.
 pub fn closed_kind(
     alloc: Global,
-    source: &Source<'_>,
+    source: &FileText<'_>,
     sig: &Signature,
     tree: &TypeTree,
 ) -> Result<Kind, ElabFault>
@@ -54,8 +54,8 @@ pub fn closed_kind(
 {
     sig.is_formed();
     let metas = GoalList::new(alloc);
-    let mut names = Binders::new(alloc);
-    match read_kind(alloc, source, sig, &metas, &mut names, &Scope::Closed, tree) {
+    let mut names = BoundNames::new(alloc);
+    match read_kind(alloc, source, sig, &metas, &mut names, &LocalContext::Closed, tree) {
         Err(fault) => Err(fault),
         Ok(kind) => Ok(kind),
     }

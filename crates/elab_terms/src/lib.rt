@@ -6,7 +6,7 @@
 #![tactic(auto)]
 
 mod applied;
-mod binders;
+mod bound_names;
 mod binding;
 pub mod closed;
 pub mod elab_fault;
@@ -16,11 +16,8 @@ pub mod names;
 mod read_kind;
 mod read_type;
 mod results;
-pub mod source;
+pub mod file_text;
 mod terms;
 mod types;
 
 pub use elab_fault::ElabFault;
-
-#[cfg(test)]
-mod tests;

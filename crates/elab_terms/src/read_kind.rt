@@ -6,29 +6,29 @@ ghost use Rattle.lex_text.specs.Tokens.{TokensOf};
 ghost use Rattle.lf_terms.specs.Types.{types_of};
 ghost use Rattle.file_trees.specs.Trees.{Classifier, bind};
 ghost use Rattle.file_trees.specs.TypeViews.{bindings_of, last_of};
-ghost use Rattle.elab_terms.specs.Fronts.{OpensKind, ReadsKindAfter, RefusesKindAfter};
-ghost use Rattle.elab_terms.specs.Knowing.{KnownAt, IsRefusal, typing_of};
-ghost use Rattle.elab_terms.specs.Sources.{text_in};
+ghost use Rattle.elab_terms.specs.ReadBinders.{OpensKind, ReadsKindAfter, RefusesKindAfter};
+ghost use Rattle.elab_terms.specs.KnownTypes.{KnownAt, IsRefusal, typing_of};
+ghost use Rattle.elab_terms.specs.FileTexts.{text_in};
 ghost use Rattle.elab_terms.specs.Types.{ReadsKind, RefusesKind};
 
-use crate::binders::Binders;
+use crate::bound_names::BoundNames;
 use crate::binding::{bound_name, domain};
 use crate::elab_fault::ElabFault;
 use crate::read_type::read_type;
-use crate::source::Source;
+use crate::file_text::FileText;
 use file_trees::{Binder, Last, TypeTree};
-use lf_kernel::scope::Scope;
+use lf_kernel::local_context::LocalContext;
 use lf_terms::{GoalList, Kind, Signature, Ty, Tys};
 use std::alloc::Global;
 
 /// Reads a kind. However many binders it has, it is read without recursion over them.
 pub fn read_kind<'a>(
     alloc: Global,
-    source: &'a Source<'a>,
+    source: &'a FileText<'a>,
     sig: &'a Signature,
     metas: &'a GoalList,
-    names: &mut Binders,
-    scope: &'a Scope<'a>,
+    names: &mut BoundNames,
+    scope: &'a LocalContext<'a>,
     tree: &'a TypeTree,
 ) -> Result<Kind, ElabFault>
     requires cut { TokensOf source.now.bytes.now source.now.tokens.now }
@@ -38,8 +38,8 @@ pub fn read_kind<'a>(
     ensures refused { IfErr result (IsRefusal (RefusesKind (text_in source.now) sig.now names.old (typing_of sig.now scope.now) tree.now)) }
     ensures names { OnOk result (names.new ≡ names.old) }
 {
-    let front = Vec::new(alloc);
-    match read_kind_rest(alloc, source, sig, metas, names, scope, front, tree) {
+    let prefix = Vec::new(alloc);
+    match read_kind_rest(alloc, source, sig, metas, names, scope, prefix, tree) {
         Err(fault) => Err(fault),
         Ok(types) => {
             let binders = Tys::from_vec(alloc, types)?;
@@ -52,19 +52,19 @@ pub fn read_kind<'a>(
 #[cycle(read_kind)]
 fn read_kind_rest<'a>(
     alloc: Global,
-    source: &'a Source<'a>,
+    source: &'a FileText<'a>,
     sig: &'a Signature,
     metas: &'a GoalList,
-    names: &mut Binders,
-    scope: &'a Scope<'a>,
-    front: Vec<Ty>,
+    names: &mut BoundNames,
+    scope: &'a LocalContext<'a>,
+    prefix: Vec<Ty>,
     tree: &'a TypeTree,
 ) -> Result<Vec<Ty>, ElabFault>
     requires cut { TokensOf source.now.bytes.now source.now.tokens.now }
     requires closed { metas.now ≡ [] }
-    requires known { KnownAt sig.now (with_context (types_of front.items) (typing_of sig.now scope.now)) names.old }
-    ensures read { IfOk result (λ kind. ReadsKindAfter (text_in source.now) sig.now names.old (typing_of sig.now scope.now) (types_of front.items) tree.now (types_of kind.items)) }
-    ensures refused { IfErr result (IsRefusal (RefusesKindAfter (text_in source.now) sig.now names.old (typing_of sig.now scope.now) (types_of front.items) tree.now)) }
+    requires known { KnownAt sig.now (with_context (types_of prefix.items) (typing_of sig.now scope.now)) names.old }
+    ensures read { IfOk result (λ kind. ReadsKindAfter (text_in source.now) sig.now names.old (typing_of sig.now scope.now) (types_of prefix.items) tree.now (types_of kind.items)) }
+    ensures refused { IfErr result (IsRefusal (RefusesKindAfter (text_in source.now) sig.now names.old (typing_of sig.now scope.now) (types_of prefix.items) tree.now)) }
     ensures names { OnOk result (names.new ≡ names.old) }
 {
     let depth = names.len();
@@ -76,7 +76,7 @@ fn read_kind_rest<'a>(
         metas,
         names,
         scope,
-        front,
+        prefix,
         binders.as_slice(),
     ) {
         Err(fault) => Err(fault),
@@ -93,21 +93,21 @@ fn read_kind_rest<'a>(
 // The binders of a kind, after those before.
 fn read_kind_binders<'a>(
     alloc: Global,
-    source: &'a Source<'a>,
+    source: &'a FileText<'a>,
     sig: &'a Signature,
     metas: &'a GoalList,
-    names: &mut Binders,
-    scope: &'a Scope<'a>,
-    front: Vec<Ty>,
+    names: &mut BoundNames,
+    scope: &'a LocalContext<'a>,
+    prefix: Vec<Ty>,
     items: &'a [Binder],
 ) -> Result<Vec<Ty>, ElabFault>
     requires cut { TokensOf source.now.bytes.now source.now.tokens.now }
     requires closed { metas.now ≡ [] }
-    requires known { KnownAt sig.now (with_context (types_of front.items) (typing_of sig.now scope.now)) names.old }
-    ensures read { IfOk result (λ types. OpensKind (text_in source.now) sig.now names.old names.new (typing_of sig.now scope.now) (types_of front.items) (types_of types.items) (bindings_of items.now) []) }
-    ensures refused { IfErr result (IsRefusal (λ fault. (last : Classifier) → RefusesKindAfter (text_in source.now) sig.now names.old (typing_of sig.now scope.now) (types_of front.items) (bind (bindings_of items.now) last) fault)) }
+    requires known { KnownAt sig.now (with_context (types_of prefix.items) (typing_of sig.now scope.now)) names.old }
+    ensures read { IfOk result (λ types. OpensKind (text_in source.now) sig.now names.old names.new (typing_of sig.now scope.now) (types_of prefix.items) (types_of types.items) (bindings_of items.now) []) }
+    ensures refused { IfErr result (IsRefusal (λ fault. (last : Classifier) → RefusesKindAfter (text_in source.now) sig.now names.old (typing_of sig.now scope.now) (types_of prefix.items) (bind (bindings_of items.now) last) fault)) }
 {
-    let mut types = front;
+    let mut types = prefix;
     for i in 0..items.len() {
         match read_type(
             alloc,
@@ -115,7 +115,7 @@ fn read_kind_binders<'a>(
             &*sig,
             &*metas,
             names,
-            &Scope::Under(types.as_slice(), &*scope),
+            &LocalContext::Under(types.as_slice(), &*scope),
             domain(&items[i]),
         ) {
             Err(fault) => return Err(fault),
@@ -132,11 +132,11 @@ fn read_kind_binders<'a>(
 #[cycle(read_kind)]
 fn read_kind_last<'a>(
     alloc: Global,
-    source: &'a Source<'a>,
+    source: &'a FileText<'a>,
     sig: &'a Signature,
     metas: &'a GoalList,
-    names: &mut Binders,
-    scope: &'a Scope<'a>,
+    names: &mut BoundNames,
+    scope: &'a LocalContext<'a>,
     types: Vec<Ty>,
     last: &'a Last,
 ) -> Result<Vec<Ty>, ElabFault>

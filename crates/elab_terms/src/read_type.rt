@@ -6,33 +6,31 @@ ghost use Rattle.lex_text.specs.Tokens.{TokensOf};
 ghost use Rattle.lf_terms.specs.Types.{type_of, types_of};
 ghost use Rattle.file_trees.specs.Trees.{Classifier, bind, family};
 ghost use Rattle.file_trees.specs.TypeViews.{bindings_of, last_of};
-ghost use Rattle.elab_terms.specs.Fronts.{Opens, ReadsAfter, RefusesAfter};
-ghost use Rattle.elab_terms.specs.Knowing.{KnownAt, IsRefusal, typing_of};
-ghost use Rattle.elab_terms.specs.Sources.{text_in};
+ghost use Rattle.elab_terms.specs.ReadBinders.{Opens, ReadsAfter, RefusesAfter};
+ghost use Rattle.elab_terms.specs.KnownTypes.{KnownAt, IsRefusal, typing_of};
+ghost use Rattle.elab_terms.specs.FileTexts.{text_in};
 ghost use Rattle.elab_terms.specs.Types.{ReadsType, RefusesType};
 
-use crate::binders::Binders;
+use basics::limits::MOST_BINDERS;
+use crate::bound_names::BoundNames;
 use crate::binding::{binding_place, bound_name, domain};
 use crate::elab_fault::ElabFault;
-use crate::source::Source;
+use crate::file_text::FileText;
 use crate::types::read_family;
 use file_trees::{Binder, Last, Span, TermTrees, TypeTree};
-use lf_kernel::scope::Scope;
+use lf_kernel::local_context::LocalContext;
 use lf_terms::{GoalList, Signature, Ty, Tys};
 use std::alloc::Global;
-
-// The most binders of a type.
-const MOST_BINDERS: usize = 1000;
 
 /// Reads a type: names are resolved, and its terms are read. The fault is the first.
 #[cycle(read_type)]
 pub fn read_type<'a>(
     alloc: Global,
-    source: &'a Source<'a>,
+    source: &'a FileText<'a>,
     sig: &'a Signature,
     metas: &'a GoalList,
-    names: &mut Binders,
-    scope: &'a Scope<'a>,
+    names: &mut BoundNames,
+    scope: &'a LocalContext<'a>,
     tree: &'a TypeTree,
 ) -> Result<Ty, ElabFault>
     requires cut { TokensOf source.now.bytes.now source.now.tokens.now }
@@ -42,8 +40,8 @@ pub fn read_type<'a>(
     ensures refused { IfErr result (IsRefusal (RefusesType (text_in source.now) sig.now names.old (typing_of sig.now scope.now) 0 tree.now)) }
     ensures names { OnOk result (names.new ≡ names.old) }
 {
-    let front = Vec::new(alloc);
-    match read_rest(alloc, source, sig, metas, names, scope, front, tree) {
+    let prefix = Vec::new(alloc);
+    match read_rest(alloc, source, sig, metas, names, scope, prefix, tree) {
         Err(fault) => Err(fault),
         Ok(ty) => Ok(ty),
     }
@@ -53,19 +51,19 @@ pub fn read_type<'a>(
 #[cycle(read_type)]
 fn read_rest<'a>(
     alloc: Global,
-    source: &'a Source<'a>,
+    source: &'a FileText<'a>,
     sig: &'a Signature,
     metas: &'a GoalList,
-    names: &mut Binders,
-    scope: &'a Scope<'a>,
-    front: Vec<Ty>,
+    names: &mut BoundNames,
+    scope: &'a LocalContext<'a>,
+    prefix: Vec<Ty>,
     tree: &'a TypeTree,
 ) -> Result<Ty, ElabFault>
     requires cut { TokensOf source.now.bytes.now source.now.tokens.now }
     requires closed { metas.now ≡ [] }
-    requires known { KnownAt sig.now (with_context (types_of front.items) (typing_of sig.now scope.now)) names.old }
-    ensures read { IfOk result (λ ty. ReadsAfter (text_in source.now) sig.now names.old (typing_of sig.now scope.now) (types_of front.items) tree.now (type_of ty)) }
-    ensures refused { IfErr result (IsRefusal (RefusesAfter (text_in source.now) sig.now names.old (typing_of sig.now scope.now) (types_of front.items) tree.now)) }
+    requires known { KnownAt sig.now (with_context (types_of prefix.items) (typing_of sig.now scope.now)) names.old }
+    ensures read { IfOk result (λ ty. ReadsAfter (text_in source.now) sig.now names.old (typing_of sig.now scope.now) (types_of prefix.items) tree.now (type_of ty)) }
+    ensures refused { IfErr result (IsRefusal (RefusesAfter (text_in source.now) sig.now names.old (typing_of sig.now scope.now) (types_of prefix.items) tree.now)) }
     ensures names { OnOk result (names.new ≡ names.old) }
 {
     let depth = names.len();
@@ -77,7 +75,7 @@ fn read_rest<'a>(
         metas,
         names,
         scope,
-        front,
+        prefix,
         binders.as_slice(),
     ) {
         Err(fault) => Err(fault),
@@ -95,21 +93,21 @@ fn read_rest<'a>(
 #[cycle(read_type)]
 fn read_binders<'a>(
     alloc: Global,
-    source: &'a Source<'a>,
+    source: &'a FileText<'a>,
     sig: &'a Signature,
     metas: &'a GoalList,
-    names: &mut Binders,
-    scope: &'a Scope<'a>,
-    front: Vec<Ty>,
+    names: &mut BoundNames,
+    scope: &'a LocalContext<'a>,
+    prefix: Vec<Ty>,
     items: &'a [Binder],
 ) -> Result<Vec<Ty>, ElabFault>
     requires cut { TokensOf source.now.bytes.now source.now.tokens.now }
     requires closed { metas.now ≡ [] }
-    requires known { KnownAt sig.now (with_context (types_of front.items) (typing_of sig.now scope.now)) names.old }
-    ensures read { IfOk result (λ types. Opens (text_in source.now) sig.now names.old names.new (typing_of sig.now scope.now) (types_of front.items) (types_of types.items) (bindings_of items.now) []) }
-    ensures refused { IfErr result (IsRefusal (λ fault. (last : Classifier) → RefusesAfter (text_in source.now) sig.now names.old (typing_of sig.now scope.now) (types_of front.items) (bind (bindings_of items.now) last) fault)) }
+    requires known { KnownAt sig.now (with_context (types_of prefix.items) (typing_of sig.now scope.now)) names.old }
+    ensures read { IfOk result (λ types. Opens (text_in source.now) sig.now names.old names.new (typing_of sig.now scope.now) (types_of prefix.items) (types_of types.items) (bindings_of items.now) []) }
+    ensures refused { IfErr result (IsRefusal (λ fault. (last : Classifier) → RefusesAfter (text_in source.now) sig.now names.old (typing_of sig.now scope.now) (types_of prefix.items) (bind (bindings_of items.now) last) fault)) }
 {
-    let mut types = front;
+    let mut types = prefix;
     for i in 0..items.len() {
         if types.len() >= MOST_BINDERS {
             return Err(ElabFault::TooMany(binding_place(&items[i])));
@@ -120,7 +118,7 @@ fn read_binders<'a>(
             &*sig,
             &*metas,
             names,
-            &Scope::Under(types.as_slice(), &*scope),
+            &LocalContext::Under(types.as_slice(), &*scope),
             domain(&items[i]),
         ) {
             Err(fault) => return Err(fault),
@@ -137,11 +135,11 @@ fn read_binders<'a>(
 #[cycle(read_type)]
 fn read_last<'a>(
     alloc: Global,
-    source: &'a Source<'a>,
+    source: &'a FileText<'a>,
     sig: &'a Signature,
     metas: &'a GoalList,
-    names: &mut Binders,
-    scope: &'a Scope<'a>,
+    names: &mut BoundNames,
+    scope: &'a LocalContext<'a>,
     types: Vec<Ty>,
     last: &'a Last,
 ) -> Result<Ty, ElabFault>
@@ -164,11 +162,11 @@ fn read_last<'a>(
 // A family with its arguments, after these binders.
 fn read_atom<'a>(
     alloc: Global,
-    source: &'a Source<'a>,
+    source: &'a FileText<'a>,
     sig: &'a Signature,
     metas: &'a GoalList,
-    names: &mut Binders,
-    scope: &'a Scope<'a>,
+    names: &mut BoundNames,
+    scope: &'a LocalContext<'a>,
     types: Vec<Ty>,
     span: Span,
     arguments: &'a TermTrees,
@@ -180,7 +178,7 @@ fn read_atom<'a>(
     ensures refused { IfErr result (IsRefusal (RefusesAfter (text_in source.now) sig.now names.old (typing_of sig.now scope.now) (types_of types.items) (family span arguments.now))) }
     ensures names { OnOk result (names.new ≡ names.old) }
 {
-    let inside = Scope::Under(types.as_slice(), scope);
+    let inside = LocalContext::Under(types.as_slice(), scope);
     match read_family(alloc, source, sig, metas, names, &inside, span, arguments) {
         Err(fault) => Err(fault),
         Ok(atom) => {

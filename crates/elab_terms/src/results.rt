@@ -10,7 +10,7 @@ ghost use Rattle.lf_terms.specs.Terms.{head_of, term_of, spine_of};
 ghost use Rattle.lf_terms.specs.Shapes.{simple_types_of};
 ghost use Rattle.lf_terms.specs.Types.{type_of, types_of};
 ghost use Rattle.elab_terms.specs.Terms.{expanded};
-ghost use Rattle.elab_terms.specs.Passing.{left_of};
+ghost use Rattle.elab_terms.specs.Domains.{left_of};
 
 use lf_kernel::head_type::HeadType;
 use lf_terms::eta::{abstracted, own_variables, raised};

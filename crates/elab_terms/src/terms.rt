@@ -10,20 +10,20 @@ ghost use Rattle.lf_terms.specs.Types.{type_of};
 ghost use Rattle.file_trees.specs.Trees.{leaf, abstraction};
 ghost use Rattle.file_trees.specs.TermViews.{tree_of};
 ghost use Rattle.elab_terms.specs.Applied.{base_of, arguments_of};
-ghost use Rattle.elab_terms.specs.Knowing.{KnownAt, IsWanted, IsRefusal, typing_of};
-ghost use Rattle.elab_terms.specs.Passing.{Domains};
-ghost use Rattle.elab_terms.specs.Sources.{text_in};
+ghost use Rattle.elab_terms.specs.KnownTypes.{KnownAt, IsWanted, IsRefusal, typing_of};
+ghost use Rattle.elab_terms.specs.Domains.{Domains};
+ghost use Rattle.elab_terms.specs.FileTexts.{text_in};
 ghost use Rattle.elab_terms.specs.Terms.{ReadsTerm, RefusesTerm, ReadsArguments, RefusesArguments};
 
 use crate::applied::{argument, base};
-use crate::binders::Binders;
+use crate::bound_names::BoundNames;
 use crate::elab_fault::ElabFault;
 use crate::head::head_named;
 use crate::results::{expand, left_type, type_after};
-use crate::source::{Source, binder, text};
+use crate::file_text::{FileText, binder, text};
 use file_trees::{Span, TermTree, place};
 use lf_kernel::head_type::type_of_head;
-use lf_kernel::scope::Scope;
+use lf_kernel::local_context::LocalContext;
 use lf_terms::same::same_ty;
 use lf_terms::shape_of::shapes_of;
 use lf_terms::subst::put_type;
@@ -34,11 +34,11 @@ use std::alloc::Global;
 #[cycle(read)]
 pub fn read_term<'a>(
     alloc: Global,
-    source: &'a Source<'a>,
+    source: &'a FileText<'a>,
     sig: &'a Signature,
     metas: &'a GoalList,
-    names: &mut Binders,
-    scope: &'a Scope<'a>,
+    names: &mut BoundNames,
+    scope: &'a LocalContext<'a>,
     tree: &'a TermTree,
     wanted: &'a Ty,
 ) -> Result<Term, ElabFault>
@@ -74,11 +74,11 @@ pub fn read_term<'a>(
 #[cycle(read)]
 fn read_abstraction<'a>(
     alloc: Global,
-    source: &'a Source<'a>,
+    source: &'a FileText<'a>,
     sig: &'a Signature,
     metas: &'a GoalList,
-    names: &mut Binders,
-    scope: &'a Scope<'a>,
+    names: &mut BoundNames,
+    scope: &'a LocalContext<'a>,
     tree: &'a TermTree,
     span: Span,
     body: &'a TermTree,
@@ -102,7 +102,7 @@ fn read_abstraction<'a>(
             }
             let left = left_type(alloc, &wanted.binders, wanted.family, &wanted.args, 1)?;
             names.push(alloc, binder(source, span))?;
-            let inside = Scope::Under(&binders[..1], scope);
+            let inside = LocalContext::Under(&binders[..1], scope);
             match read_term(alloc, source, sig, metas, names, &inside, body, &left) {
                 Err(fault) => Err(fault),
                 Ok(term) => {
@@ -118,11 +118,11 @@ fn read_abstraction<'a>(
 #[cycle(read)]
 fn read_application<'a>(
     alloc: Global,
-    source: &'a Source<'a>,
+    source: &'a FileText<'a>,
     sig: &'a Signature,
     metas: &'a GoalList,
-    names: &mut Binders,
-    scope: &'a Scope<'a>,
+    names: &mut BoundNames,
+    scope: &'a LocalContext<'a>,
     tree: &'a TermTree,
     span: Span,
     wanted: &'a Ty,
@@ -174,11 +174,11 @@ fn read_application<'a>(
 #[cycle(read)]
 pub fn read_arguments<'a>(
     alloc: Global,
-    source: &'a Source<'a>,
+    source: &'a FileText<'a>,
     sig: &'a Signature,
     metas: &'a GoalList,
-    names: &mut Binders,
-    scope: &'a Scope<'a>,
+    names: &mut BoundNames,
+    scope: &'a LocalContext<'a>,
     tree: &'a TermTree,
     binders: &'a Tys,
     shapes: &'a Shapes,

@@ -8,19 +8,19 @@ ghost use Rattle.lf_terms.specs.Terms.{spine_of};
 ghost use Rattle.lf_terms.specs.Types.{atom_of};
 ghost use Rattle.file_trees.specs.Trees.{family};
 ghost use Rattle.file_trees.specs.TermViews.{trees_of};
-ghost use Rattle.elab_terms.specs.Knowing.{KnownAt, IsRefusal, typing_of};
-ghost use Rattle.elab_terms.specs.Passing.{Domains};
-ghost use Rattle.elab_terms.specs.Sources.{text_in};
+ghost use Rattle.elab_terms.specs.KnownTypes.{KnownAt, IsRefusal, typing_of};
+ghost use Rattle.elab_terms.specs.Domains.{Domains};
+ghost use Rattle.elab_terms.specs.FileTexts.{text_in};
 ghost use Rattle.elab_terms.specs.Terms.{ReadsArguments, RefusesArguments};
 ghost use Rattle.elab_terms.specs.Types.{ReadsType, RefusesType};
 
-use crate::binders::Binders;
+use crate::bound_names::BoundNames;
 use crate::elab_fault::ElabFault;
 use crate::head::family_at;
-use crate::source::{Source, text};
+use crate::file_text::{FileText, text};
 use crate::terms::read_term;
 use file_trees::{Span, TermTree, TermTrees, place};
-use lf_kernel::scope::Scope;
+use lf_kernel::local_context::LocalContext;
 use lf_terms::shape_of::shapes_of;
 use lf_terms::subst::put_type;
 use lf_terms::{Atom, GoalList, Shapes, Signature, Term, Terms, Ty, Tys};
@@ -29,11 +29,11 @@ use std::alloc::Global;
 /// Reads terms at the binders of a kind, one each.
 pub fn read_terms<'a>(
     alloc: Global,
-    source: &'a Source<'a>,
+    source: &'a FileText<'a>,
     sig: &'a Signature,
     metas: &'a GoalList,
-    names: &mut Binders,
-    scope: &'a Scope<'a>,
+    names: &mut BoundNames,
+    scope: &'a LocalContext<'a>,
     items: &'a [TermTree],
     binders: &'a Tys,
     shapes: &'a Shapes,
@@ -66,11 +66,11 @@ pub fn read_terms<'a>(
 /// Reads a family with its arguments.
 pub fn read_family<'a>(
     alloc: Global,
-    source: &'a Source<'a>,
+    source: &'a FileText<'a>,
     sig: &'a Signature,
     metas: &'a GoalList,
-    names: &mut Binders,
-    scope: &'a Scope<'a>,
+    names: &mut BoundNames,
+    scope: &'a LocalContext<'a>,
     span: Span,
     arguments: &'a TermTrees,
 ) -> Result<Atom, ElabFault>

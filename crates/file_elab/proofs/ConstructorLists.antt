@@ -19,11 +19,11 @@ use Rattle.rule_sets.specs.Refusals.{AddsList, AreConstructors, HasFamily, IsFir
 use Rattle.rule_sets.specs.declared.rule.CtorFault.{CtorFault}
 use Rattle.rule_sets.specs.declared.rule.CtorFault.TheVariants.{Repeated}
 use Rattle.rule_sets.proofs.Constructors.{good_more}
-use Rattle.elab_terms.specs.Knowing.{IsRefusal}
+use Rattle.elab_terms.specs.KnownTypes.{IsRefusal}
 use Rattle.elab_terms.specs.Names.{Text, text_at}
 use Rattle.elab_terms.specs.declared.elab_fault.ElabFault.{ElabFault}
 use Rattle.elab_terms.specs.declared.elab_fault.ElabFault.TheVariants.{Taken, TooMany, Unknown, Redex, IllTyped, BadRule, NoMemory}
-use Rattle.file_elab.specs.Programming.{program_with, DeclaresInBook, RefusesInBook}
+use Rattle.file_elab.specs.ProgramParts.{program_with, DeclaresInBook, RefusesInBook}
 use Rattle.file_elab.specs.Programs.{AreNumbers, no_number, one_number, Declares, declares_constructors, refuses_listed_name, refuses_listed_again, refuses_listed_other}
 use Rattle.file_elab.specs.Constructors.{RefusesNext, next_unknown, next_again, next_other, RefusesList}
 
@@ -82,8 +82,8 @@ module _ (sig : LfSignature) (f : ℕ) (constants keys : List ℕ) (c : ℕ) (pa
   last_is : get_or all (length constants) 0 ≡ c
   last_is = get_or_at constants c [] 0 (length constants) refl
 
-  front_is : take (length constants) all ≡ constants
-  front_is = take_at constants (c ∷ []) (length constants) refl
+  prefix_is : take (length constants) all ≡ constants
+  prefix_is = take_at constants (c ∷ []) (length constants) refl
 
   within : length constants < length all
   within = omega (arith, length-append constants (c ∷ []))
@@ -91,8 +91,8 @@ module _ (sig : LfSignature) (f : ℕ) (constants keys : List ℕ) (c : ℕ) (pa
   whole : take (length constants + 1) all ≡ all
   whole = take_all (length constants + 1) all (omega (arith, length-append constants (c ∷ [])))
 
-  good_front : AreConstructors sig f (take (length constants) all)
-  good_front = let P : List ℕ → Type 0 = AreConstructors sig f in subst P (sym front_is) good
+  good_prefix : AreConstructors sig f (take (length constants) all)
+  good_prefix = let P : List ℕ → Type 0 = AreConstructors sig f in subst P (sym prefix_is) good
 
   missing_last : list_any (nat_eq c) keys ≡ false → list_any (nat_eq (get_or all (length constants) 0)) keys ≡ false
   missing_last missing = ap (λ d. list_any (nat_eq d) keys) last_is ∙ missing
@@ -109,7 +109,7 @@ module _ (sig : LfSignature) (f : ℕ) (constants keys : List ℕ) (c : ℕ) (pa
   constructors_more missing has =
       let P : List ℕ → Type 0 = AreConstructors sig f in
       let Q : ℕ → Type 0 = HasFamily sig f in
-      subst P whole (good_more sig f all all (length constants) keys refl within (passed ∙ sym front_is) good_front (missing_last missing) (subst Q (sym last_is) has))
+      subst P whole (good_more sig f all all (length constants) keys refl within (passed ∙ sym prefix_is) good_prefix (missing_last missing) (subst Q (sym last_is) has))
 
   pub passed_next : (new : List ℕ) → list_any (nat_eq c) keys ≡ false → new ≡ insert_key nat_eq keys c → new ≡ constants ++ c ∷ []
   passed_next new missing is = is ∙ ap (λ b. cond b keys (keys ++ c ∷ [])) missing ∙ ap (λ l. l ++ c ∷ []) passed
@@ -124,7 +124,7 @@ module _ (text : Text) (sig : LfSignature) (f : ℕ) (spans : List Span) (i : �
 
   pub refused_next : (fault : ElabFault) → AreConstructors sig f constants → RefusesNext text sig f constants (get_or spans i d) fault → RefusesList text sig f spans fault
   refused_next fault good refused = record {
-    front = take i spans;
+    prefix = take i spans;
     span = get_or spans i d;
     rest = drop (i + 1) spans;
     parts = sym (take-append-drop (i + 1) spans) ∙ ap (λ l. l ++ drop (i + 1) spans) (take_more spans i d less) ∙ append_assoc (take i spans) (get_or spans i d ∷ []) (drop (i + 1) spans);
@@ -147,14 +147,14 @@ module _ (text : Text) (sig : LfSignature) (old : Book) (name : Span) (spans : L
       let P : Book → Type 0 = λ b. Declares text (program_with sig old theorems) (Ctors name spans) (program_with sig b theorems) in
       subst P (sym is) (declares_constructors name spans f constants family_is none numbers good)
 
-  next_refused : (front rest : List Span) (span : Span) (constants : List ℕ) (fault : ElabFault) → AreNumbers text sig front constants → AreConstructors sig f constants →
-      RefusesNext text sig f constants span fault → RefusesInBook text sig old (Ctors name (front ++ span ∷ rest)) fault
-  next_refused front rest span constants _ numbers good (next_unknown absent) theorems = refuses_listed_name name span front rest f constants family_is none numbers good absent
-  next_refused front rest span constants _ numbers good (next_again c is again) theorems = refuses_listed_again name span front rest f c constants family_is none numbers good is again
-  next_refused front rest span constants _ numbers good (next_other c is new other) theorems =
-      refuses_listed_other name span front rest f c constants family_is none numbers good is new other
+  next_refused : (prefix rest : List Span) (span : Span) (constants : List ℕ) (fault : ElabFault) → AreNumbers text sig prefix constants → AreConstructors sig f constants →
+      RefusesNext text sig f constants span fault → RefusesInBook text sig old (Ctors name (prefix ++ span ∷ rest)) fault
+  next_refused prefix rest span constants _ numbers good (next_unknown absent) theorems = refuses_listed_name name span prefix rest f constants family_is none numbers good absent
+  next_refused prefix rest span constants _ numbers good (next_again c is again) theorems = refuses_listed_again name span prefix rest f c constants family_is none numbers good is again
+  next_refused prefix rest span constants _ numbers good (next_other c is new other) theorems =
+      refuses_listed_other name span prefix rest f c constants family_is none numbers good is new other
 
   pub list_refused : (fault : ElabFault) → RefusesList text sig f spans fault → RefusesInBook text sig old (Ctors name spans) fault
   list_refused fault r =
       let P : List Span → Type 0 = λ l. RefusesInBook text sig old (Ctors name l) fault in
-      subst P (sym r.parts) (next_refused r.front r.rest r.span r.constants fault r.numbers r.constructors r.refused)
+      subst P (sym r.parts) (next_refused r.prefix r.rest r.span r.constants fault r.numbers r.constructors r.refused)

@@ -17,8 +17,9 @@ use Rattle.elab_terms.specs.Types.{RefusesType, RefusesKind}
 use Rattle.elab_terms.specs.declared.elab_fault.ElabFault.{ElabFault}
 use Rattle.elab_terms.specs.declared.elab_fault.ElabFault.TheVariants.{Taken, Unknown, BadRule}
 use Rattle.elab_terms.proofs.ReadOrRefused.{read_type_not_refused, one_fault_of_type, read_kind_not_refused, one_fault_of_kind}
-use Rattle.file_elab.specs.Rules.{ReadsRule, RefusesRule, refuses_number, refuses_subject, refuses_major, refuses_premises, builder_of, HasMajor, major_value}
-use Rattle.file_elab.specs.Programs.{LfProgram, rule_names, theorem_names, MayBeNamed, RefusesName, refuses_taken, refuses_many, most_symbols, most_rules, most_theorems, AreNumbers, no_number, one_number, Declares, declares_family, declares_constant, declares_theorem, declares_rule, declares_constructors, Refuses, refuses_family_name, refuses_family_kind, refuses_constant_name, refuses_constant_type, refuses_theorem_name, refuses_theorem_type, refuses_rule_name, refuses_rule_part, refuses_listed_family, refuses_listed, refuses_listed_name, refuses_listed_again, refuses_listed_other}
+use Rattle.file_elab.specs.Rules.{ReadsRule, RefusesRule, refuses_number, refuses_subject, refuses_major, refuses_premises, builder_of, HasMajorPlace, major_value}
+use Rattle.basics.specs.Limits.{most_symbols, most_rules, most_theorems}
+use Rattle.file_elab.specs.Programs.{LfProgram, rule_names, theorem_names, MayBeNamed, RefusesName, refuses_taken, refuses_many, AreNumbers, no_number, one_number, Declares, declares_family, declares_constant, declares_theorem, declares_rule, declares_constructors, Refuses, refuses_family_name, refuses_family_kind, refuses_constant_name, refuses_constant_type, refuses_theorem_name, refuses_theorem_type, refuses_rule_name, refuses_rule_part, refuses_listed_family, refuses_listed, refuses_listed_name, refuses_listed_again, refuses_listed_other}
 use Rattle.file_elab.proofs.DeclaredOnce.{same_numbers}
 
 -- A name that may be declared is not refused, and a fault of a name is one.
@@ -77,7 +78,7 @@ rule_not_refused : {text : Text} {sig : LfSignature} {book : Book} {name number 
 rule_not_refused {rule = rule} read (refuses_number none) = none (rule.phase, read.phase_is)
 rule_not_refused read (refuses_subject has none) = None-Some none read.subject_is
 rule_not_refused {text = text} {sig = sig} {builder = builder} {major = major} {rule = rule} read (refuses_major found has known none) =
-    none (subst (λ s. HasMajor sig (builder_of builder) s (major_value text major)) (Some_inj read.subject_is known) (rule.major, read.major_is))
+    none (subst (λ s. HasMajorPlace sig (builder_of builder) s (major_value text major)) (Some_inj read.subject_is known) (rule.major, read.major_is))
 rule_not_refused {sig = sig} {builder = builder} read (refuses_premises found has known one bad) =
     read.premises_are (subst (HasBadPremises sig (builder_of builder)) (Some_inj known read.subject_is) bad)
 
@@ -95,32 +96,32 @@ one_fault_of_rule (refuses_major found has known without) (refuses_number none) 
 one_fault_of_rule (refuses_major found has known without) (refuses_subject again unknown) = absurd (None-Some unknown known)
 one_fault_of_rule (refuses_major found has known without) (refuses_major other again same none) = refl
 one_fault_of_rule {text = text} {sig = sig} {builder = builder} {major = major} (refuses_major found has known without) (refuses_premises other again same one bad) =
-    absurd (without (subst (λ s. HasMajor sig (builder_of builder) s (major_value text major)) (Some_inj same known) one))
+    absurd (without (subst (λ s. HasMajorPlace sig (builder_of builder) s (major_value text major)) (Some_inj same known) one))
 one_fault_of_rule (refuses_premises found has known one bad) (refuses_number none) = absurd (none has)
 one_fault_of_rule (refuses_premises found has known one bad) (refuses_subject again unknown) = absurd (None-Some unknown known)
 one_fault_of_rule {text = text} {sig = sig} {builder = builder} {major = major} (refuses_premises found has known one bad) (refuses_major other again same without) =
-    absurd (without (subst (λ s. HasMajor sig (builder_of builder) s (major_value text major)) (Some_inj known same) one))
+    absurd (without (subst (λ s. HasMajorPlace sig (builder_of builder) s (major_value text major)) (Some_inj known same) one))
 one_fault_of_rule (refuses_premises found has known one bad) (refuses_premises other again same more wrong) = refl
 
--- Of two ways to take an entry out of a list, they are one, or the entry of one stands in front of that of the other.
-pub record SameEntry {X : Type 0} (front longer : List X) (x y : X) : Type 0 where
-  pub front_is : longer ≡ front
+-- Of two ways to take an entry out of a list, they are one, or the entry of one stands in prefix of that of the other.
+pub record SameEntry {X : Type 0} (prefix longer : List X) (x y : X) : Type 0 where
+  pub prefix_is : longer ≡ prefix
   pub entry_is : y ≡ x
 
-pub record EntryBefore {X : Type 0} (front longer : List X) (x : X) : Type 0 where
+pub record EntryBefore {X : Type 0} (prefix longer : List X) (x : X) : Type 0 where
   pub more : List X
-  pub longer_is : longer ≡ front ++ x ∷ more
+  pub longer_is : longer ≡ prefix ++ x ∷ more
 
-pub entries : {X : Type 0} (front longer rest left : List X) (x y : X) → front ++ x ∷ rest ≡ longer ++ y ∷ left →
-    SameEntry front longer x y ⊎ EntryBefore front longer x ⊎ EntryBefore longer front y
-entries [] [] rest left x y e = let same : x ≡ y = cc in inl (record { front_is = refl; entry_is = sym same })
+pub entries : {X : Type 0} (prefix longer rest left : List X) (x y : X) → prefix ++ x ∷ rest ≡ longer ++ y ∷ left →
+    SameEntry prefix longer x y ⊎ EntryBefore prefix longer x ⊎ EntryBefore longer prefix y
+entries [] [] rest left x y e = let same : x ≡ y = cc in inl (record { prefix_is = refl; entry_is = sym same })
 entries [] (b ∷ longer) rest left x y e = let same : x ≡ b = cc in inr (inl (record { more = longer; longer_is = ap (λ z. z ∷ longer) (sym same) }))
-entries (a ∷ front) [] rest left x y e = let same : a ≡ y = cc in inr (inr (record { more = front; longer_is = ap (λ z. z ∷ front) same }))
-entries (a ∷ front) (b ∷ longer) rest left x y e =
+entries (a ∷ prefix) [] rest left x y e = let same : a ≡ y = cc in inr (inr (record { more = prefix; longer_is = ap (λ z. z ∷ prefix) same }))
+entries (a ∷ prefix) (b ∷ longer) rest left x y e =
     let here : a ≡ b = cc in
-    let later : front ++ x ∷ rest ≡ longer ++ y ∷ left = cc in
-    elim (entries front longer rest left x y later) [
-      | inl same ↦ inl (record { front_is = ap₂ (λ z zs. z ∷ zs) (sym here) same.front_is; entry_is = same.entry_is })
+    let later : prefix ++ x ∷ rest ≡ longer ++ y ∷ left = cc in
+    elim (entries prefix longer rest left x y later) [
+      | inl same ↦ inl (record { prefix_is = ap₂ (λ z zs. z ∷ zs) (sym here) same.prefix_is; entry_is = same.entry_is })
       | inr (inl before) ↦ inr (inl (record { more = before.more; longer_is = ap₂ (λ z zs. z ∷ zs) (sym here) before.longer_is }))
       | inr (inr before) ↦ inr (inr (record { more = before.more; longer_is = ap₂ (λ z zs. z ∷ zs) here before.longer_is }))
     ]
@@ -145,37 +146,37 @@ one_fault_of_entry (of_another c known once differ) (no_constant none) = absurd 
 one_fault_of_entry {constants = constants} (of_another c known once differ) (stands_twice d same twice) = absurd (once (subst (Contains constants) (Some_inj same known) twice))
 one_fault_of_entry (of_another c known once differ) (of_another d same one other) = refl
 
--- The numbers of a list are those of its front, and then that of the name after this.
+-- The numbers of a list are those of its prefix, and then that of the name after this.
 record NumberAfter (text : Text) (sig : LfSignature) (span : Span) (constants numbers : List ℕ) : Type 0 where
   constant : ℕ
   more : List ℕ
   known : place_of (constant_names sig) (text_at text span) ≡ Some constant
   numbers_are : numbers ≡ constants ++ constant ∷ more
 
-number_after : {text : Text} {sig : LfSignature} {span : Span} {constants numbers : List ℕ} (front rest : List Span) →
-    AreNumbers text sig front constants → AreNumbers text sig (front ++ span ∷ rest) numbers → NumberAfter text sig span constants numbers
+number_after : {text : Text} {sig : LfSignature} {span : Span} {constants numbers : List ℕ} (prefix rest : List Span) →
+    AreNumbers text sig prefix constants → AreNumbers text sig (prefix ++ span ∷ rest) numbers → NumberAfter text sig span constants numbers
 number_after [] rest no_number (one_number span _ constant numbers known are) = record { constant = constant; more = numbers; known = known; numbers_are = refl }
-number_after (first ∷ front) rest (one_number _ _ c constants known are) (one_number _ _ d numbers same more) =
-    let after = number_after front rest are more in
+number_after (first ∷ prefix) rest (one_number _ _ c constants known are) (one_number _ _ d numbers same more) =
+    let after = number_after prefix rest are more in
     record { constant = after.constant; more = after.more; known = after.known; numbers_are = ap₂ (λ x xs. x ∷ xs) (Some_inj same known) after.numbers_are }
 
-get_after : (front : List ℕ) (x : ℕ) (more : List ℕ) → slice_get (front ++ x ∷ more) (length front) ≡ Some x
+get_after : (prefix : List ℕ) (x : ℕ) (more : List ℕ) → slice_get (prefix ++ x ∷ more) (length prefix) ≡ Some x
 get_after [] x more = refl
-get_after (y ∷ front) x more = get_after front x more
+get_after (y ∷ prefix) x more = get_after prefix x more
 
-take_front : (front more : List ℕ) → take (length front) (front ++ more) ≡ front
-take_front [] more = refl
-take_front (y ∷ front) more = ap (λ xs. y ∷ xs) (take_front front more)
+take_prefix : (prefix more : List ℕ) → take (length prefix) (prefix ++ more) ≡ prefix
+take_prefix [] more = refl
+take_prefix (y ∷ prefix) more = ap (λ xs. y ∷ xs) (take_prefix prefix more)
 
 -- Where all names are constants of a list, none is wrong after those before it.
-entry_not_wrong : {text : Text} {sig : LfSignature} {f : ℕ} {span : Span} {constants numbers : List ℕ} {fault : ElabFault} (front rest : List Span) →
-    AreNumbers text sig (front ++ span ∷ rest) numbers → AreConstructors sig f numbers → AreNumbers text sig front constants → WrongEntry text sig f constants span fault → ⊥
-entry_not_wrong {text = text} {sig = sig} {f = f} {span = span} {constants = constants} {numbers = numbers} front rest all fit are wrong = by (number_after front rest are all) wrong
+entry_not_wrong : {text : Text} {sig : LfSignature} {f : ℕ} {span : Span} {constants numbers : List ℕ} {fault : ElabFault} (prefix rest : List Span) →
+    AreNumbers text sig (prefix ++ span ∷ rest) numbers → AreConstructors sig f numbers → AreNumbers text sig prefix constants → WrongEntry text sig f constants span fault → ⊥
+entry_not_wrong {text = text} {sig = sig} {f = f} {span = span} {constants = constants} {numbers = numbers} prefix rest all fit are wrong = by (number_after prefix rest are all) wrong
   where
     fits : (c : ℕ) (more : List ℕ) → numbers ≡ constants ++ c ∷ more → (Contains constants c → ⊥) × HasFamily sig f c
     fits c more e =
         let there = subst (AreConstructors sig f) e fit (length constants) c (get_after constants c more) in
-        (subst (λ xs. Contains xs c → ⊥) (take_front constants (c ∷ more)) there.0, there.1)
+        (subst (λ xs. Contains xs c → ⊥) (take_prefix constants (c ∷ more)) there.0, there.1)
 
     by : {fault : ElabFault} → NumberAfter text sig span constants numbers → WrongEntry text sig f constants span fault → ⊥
     by after (no_constant none) = None-Some none after.known
@@ -186,38 +187,38 @@ entry_not_wrong {text = text} {sig = sig} {f = f} {span = span} {constants = con
 data ListFault (text : Text) (old : LfProgram) (name : Span) (spans : List Span) : ElabFault → Type 0 where
   unknown_family : place_of (family_names old.signature) (text_at text name) ≡ None → ListFault text old name spans (Unknown name.start)
   has_list : (f : ℕ) → place_of (family_names old.signature) (text_at text name) ≡ Some f → (list_of old.book.lists f ≡ None → ⊥) → ListFault text old name spans (Taken name.start)
-  wrong_entry : (f : ℕ) (front rest : List Span) (span : Span) (constants : List ℕ) (fault : ElabFault) → place_of (family_names old.signature) (text_at text name) ≡ Some f →
-      list_of old.book.lists f ≡ None → spans ≡ front ++ span ∷ rest → AreNumbers text old.signature front constants → AreConstructors old.signature f constants →
+  wrong_entry : (f : ℕ) (prefix rest : List Span) (span : Span) (constants : List ℕ) (fault : ElabFault) → place_of (family_names old.signature) (text_at text name) ≡ Some f →
+      list_of old.book.lists f ≡ None → spans ≡ prefix ++ span ∷ rest → AreNumbers text old.signature prefix constants → AreConstructors old.signature f constants →
       WrongEntry text old.signature f constants span fault → ListFault text old name spans fault
 
 list_fault : {text : Text} {old : LfProgram} {name : Span} {spans : List Span} {fault : ElabFault} → Refuses text old (Ctors name spans) fault → ListFault text old name spans fault
 list_fault (refuses_listed_family name spans none) = unknown_family none
 list_fault (refuses_listed name spans f known listed) = has_list f known listed
-list_fault (refuses_listed_name name span front rest f constants known new are fit none) =
-    wrong_entry f front rest span constants (Unknown span.start) known new refl are fit (no_constant none)
-list_fault (refuses_listed_again name span front rest f c constants known new are fit there twice) =
-    wrong_entry f front rest span constants (Taken span.start) known new refl are fit (stands_twice c there twice)
-list_fault (refuses_listed_other name span front rest f c constants known new are fit there once differ) =
-    wrong_entry f front rest span constants (BadRule span.start) known new refl are fit (of_another c there once differ)
+list_fault (refuses_listed_name name span prefix rest f constants known new are fit none) =
+    wrong_entry f prefix rest span constants (Unknown span.start) known new refl are fit (no_constant none)
+list_fault (refuses_listed_again name span prefix rest f c constants known new are fit there twice) =
+    wrong_entry f prefix rest span constants (Taken span.start) known new refl are fit (stands_twice c there twice)
+list_fault (refuses_listed_other name span prefix rest f c constants known new are fit there once differ) =
+    wrong_entry f prefix rest span constants (BadRule span.start) known new refl are fit (of_another c there once differ)
 
 list_not_refused : {text : Text} {old : LfProgram} {name : Span} {spans : List Span} {f : ℕ} {numbers : List ℕ} {fault : ElabFault} →
     place_of (family_names old.signature) (text_at text name) ≡ Some f → list_of old.book.lists f ≡ None → AreNumbers text old.signature spans numbers →
     AreConstructors old.signature f numbers → ListFault text old name spans fault → ⊥
 list_not_refused known new are fit (unknown_family none) = None-Some none known
 list_not_refused {old = old} known new are fit (has_list g same listed) = listed (ap (list_of old.book.lists) (Some_inj same known) ∙ new)
-list_not_refused {text = text} {old = old} {numbers = numbers} known new are fit (wrong_entry g front rest span constants fault same none parts some good wrong) =
-    entry_not_wrong front rest (subst (λ xs. AreNumbers text old.signature xs numbers) parts are) (subst (λ n. AreConstructors old.signature n numbers) (Some_inj known same) fit) some wrong
+list_not_refused {text = text} {old = old} {numbers = numbers} known new are fit (wrong_entry g prefix rest span constants fault same none parts some good wrong) =
+    entry_not_wrong prefix rest (subst (λ xs. AreNumbers text old.signature xs numbers) parts are) (subst (λ n. AreConstructors old.signature n numbers) (Some_inj known same) fit) some wrong
 
-same_entry_fault : {text : Text} {sig : LfSignature} {f : ℕ} {front longer : List Span} {span last : Span} {constants others : List ℕ} {fault other : ElabFault} → SameEntry front longer span last →
-    AreNumbers text sig front constants → WrongEntry text sig f constants span fault → AreNumbers text sig longer others → WrongEntry text sig f others last other → fault ≡ other
+same_entry_fault : {text : Text} {sig : LfSignature} {f : ℕ} {prefix longer : List Span} {span last : Span} {constants others : List ℕ} {fault other : ElabFault} → SameEntry prefix longer span last →
+    AreNumbers text sig prefix constants → WrongEntry text sig f constants span fault → AreNumbers text sig longer others → WrongEntry text sig f others last other → fault ≡ other
 same_entry_fault {text = text} {sig = sig} {f = f} {others = others} {other = other} same are wrong more bad =
-    let constants_are = same_numbers (subst (λ xs. AreNumbers text sig xs others) same.front_is more) are in
+    let constants_are = same_numbers (subst (λ xs. AreNumbers text sig xs others) same.prefix_is more) are in
     one_fault_of_entry wrong (subst₂ (λ cs s. WrongEntry text sig f cs s other) constants_are same.entry_is bad)
 
-before_not_wrong : {text : Text} {sig : LfSignature} {f : ℕ} {front longer : List Span} {span : Span} {constants numbers : List ℕ} {fault : ElabFault} → EntryBefore front longer span →
-    AreNumbers text sig longer numbers → AreConstructors sig f numbers → AreNumbers text sig front constants → WrongEntry text sig f constants span fault → ⊥
-before_not_wrong {text = text} {sig = sig} {front = front} {numbers = numbers} before all fit are wrong =
-    entry_not_wrong front before.more (subst (λ xs. AreNumbers text sig xs numbers) before.longer_is all) fit are wrong
+before_not_wrong : {text : Text} {sig : LfSignature} {f : ℕ} {prefix longer : List Span} {span : Span} {constants numbers : List ℕ} {fault : ElabFault} → EntryBefore prefix longer span →
+    AreNumbers text sig longer numbers → AreConstructors sig f numbers → AreNumbers text sig prefix constants → WrongEntry text sig f constants span fault → ⊥
+before_not_wrong {text = text} {sig = sig} {prefix = prefix} {numbers = numbers} before all fit are wrong =
+    entry_not_wrong prefix before.more (subst (λ xs. AreNumbers text sig xs numbers) before.longer_is all) fit are wrong
 
 one_list_fault : {text : Text} {old : LfProgram} {name : Span} {spans : List Span} {fault other : ElabFault} → ListFault text old name spans fault → ListFault text old name spans other → fault ≡ other
 one_list_fault (unknown_family none) (unknown_family nothing) = refl
@@ -226,12 +227,12 @@ one_list_fault (unknown_family none) (wrong_entry g longer left last others othe
 one_list_fault (has_list f known listed) (unknown_family none) = absurd (None-Some none known)
 one_list_fault (has_list f known listed) (has_list g same again) = refl
 one_list_fault {old = old} (has_list f known listed) (wrong_entry g longer left last others other same new parts more good bad) = absurd (listed (ap (list_of old.book.lists) (Some_inj known same) ∙ new))
-one_list_fault (wrong_entry f front rest span constants fault known new parts are fit wrong) (unknown_family none) = absurd (None-Some none known)
-one_list_fault {old = old} (wrong_entry f front rest span constants fault known new parts are fit wrong) (has_list g same listed) = absurd (listed (ap (list_of old.book.lists) (Some_inj same known) ∙ new))
-one_list_fault {text = text} {old = old} (wrong_entry f front rest span constants fault known new parts are fit wrong) (wrong_entry g longer left last others other same none split more good bad) =
+one_list_fault (wrong_entry f prefix rest span constants fault known new parts are fit wrong) (unknown_family none) = absurd (None-Some none known)
+one_list_fault {old = old} (wrong_entry f prefix rest span constants fault known new parts are fit wrong) (has_list g same listed) = absurd (listed (ap (list_of old.book.lists) (Some_inj same known) ∙ new))
+one_list_fault {text = text} {old = old} (wrong_entry f prefix rest span constants fault known new parts are fit wrong) (wrong_entry g longer left last others other same none split more good bad) =
     let moved = subst (λ n. WrongEntry text old.signature n others last other) (Some_inj same known) bad in
     let fits = subst (λ n. AreConstructors old.signature n others) (Some_inj same known) good in
-    elim (entries front longer rest left span last (sym parts ∙ split)) [
+    elim (entries prefix longer rest left span last (sym parts ∙ split)) [
       | inl one ↦ same_entry_fault one are wrong more moved
       | inr (inl before) ↦ absurd (before_not_wrong before more fits are wrong)
       | inr (inr before) ↦ absurd (before_not_wrong before are fit more moved)

@@ -15,7 +15,7 @@ use Rattle.elab_terms.specs.Names.{Text, text_at}
 use Rattle.elab_terms.specs.declared.elab_fault.ElabFault.{ElabFault}
 use Rattle.file_elab.specs.Theorems.{LfTheorem, AreFormed}
 use Rattle.file_elab.specs.Programs.{LfProgram, Declares, declares_family, declares_constant, declares_theorem, declares_rule, declares_constructors, DeclaresAll, declares_nothing, declares_next, first_program, Refuses, IsRefused}
-use Rattle.file_elab.specs.Programming.{program_with, DeclaresSymbol}
+use Rattle.file_elab.specs.ProgramParts.{program_with, DeclaresSymbol}
 use Rattle.file_elab.proofs.Passing.{parts_at}
 
 -- what a signature has more than another
@@ -57,8 +57,8 @@ pub none_formed : (sig : LfSignature) → AreFormed sig []
 none_formed sig = All-nil (λ theorem. Formed (kinds_in sig) (typing_in sig [] []) theorem.type)
 
 -- one declaration more
-pub declares_last : {text : Text} {first program : LfProgram} {front : List DeclTree} → DeclaresAll text first front program →
-    (declaration : DeclTree) (next : LfProgram) → Declares text program declaration next → DeclaresAll text first (front ++ declaration ∷ []) next
+pub declares_last : {text : Text} {first program : LfProgram} {prefix : List DeclTree} → DeclaresAll text first prefix program →
+    (declaration : DeclTree) (next : LfProgram) → Declares text program declaration next → DeclaresAll text first (prefix ++ declaration ∷ []) next
 declares_last (declares_nothing program) declaration next declared = declares_next program next next declaration [] declared (declares_nothing next)
 declares_last (declares_next old between new first rest declared others) declaration next last =
     declares_next old between next first (rest ++ declaration ∷ []) declared (declares_last others declaration next last)
@@ -71,7 +71,7 @@ pub refused_at : (bytes : List ℕ) (tokens : List Token) → TokensOf bytes tok
 refused_at bytes tokens cut declarations i declaration within is program declared fault refused = record {
   tokens = tokens;
   cut = cut;
-  front = take i declarations;
+  prefix = take i declarations;
   declaration = declaration;
   rest = drop (i + 1) declarations;
   parts = parts_at declarations i declaration within is;

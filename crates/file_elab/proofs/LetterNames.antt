@@ -44,7 +44,7 @@ letters_encoded : (cs : List ℕ) → AllByRecursion IsLetter cs → encode_utf8
 letters_encoded [] all = refl
 letters_encoded (c ∷ cs) all =
     let bounds = letter_bounds c all.0 in
-    ap (λ front. front ++ encode_utf8_all cs) (encode_ascii c (omega (arith, bounds))) ∙ ap (λ rest. c ∷ rest) (letters_encoded cs all.1)
+    ap (λ prefix. prefix ++ encode_utf8_all cs) (encode_ascii c (omega (arith, bounds))) ∙ ap (λ rest. c ∷ rest) (letters_encoded cs all.1)
 
 pub letters_name : (c : ℕ) (cs : List ℕ) → list_all is_ascii_lowercase (c ∷ cs) ≡ true → length (c ∷ cs) ≤ 255 → bytes_eq (c ∷ cs) (codes "type") ≡ false → IsGrammarName (c ∷ cs)
 letters_name c cs letters short other =

@@ -11,7 +11,7 @@ use Rattle.rule_sets.specs.declared.rule.Builder.{Builder}
 use Rattle.rule_sets.specs.declared.rule.Builder.TheVariants.{Apply, Constructors, Cases, Forward, Destruct, Assumption, Hyps}
 use Rattle.rule_sets.specs.Refusals.{IsAtomic, argument_at, IsMajor, IsBadMajor}
 use Rattle.rule_sets.proofs.Types.{argument_at-pis}
-use Rattle.file_elab.specs.Rules.{IsMajorNumber, HasMajor}
+use Rattle.file_elab.specs.Rules.{IsMajorNumber, HasMajorPlace}
 use Rattle.file_elab.specs.ReadRules.{FitsMajor}
 
 pos_inj : {a b : ℕ} → pos a ≡ pos b → a ≡ b
@@ -73,7 +73,7 @@ other_value : (value : ℤ) (major : ℕ) → value ≡ pos major → value ≡ 
 other_value value major is zero_is = pos_inj (sym is ∙ zero_is)
 
 -- and a bad one is that of none.
-pub no_major_number : (sig : LfSignature) (b : Builder) (subject major : ℕ) (value : ℤ) → value ≡ pos major → IsBadMajor sig b subject major → HasMajor sig b subject value → ⊥
+pub no_major_number : (sig : LfSignature) (b : Builder) (subject major : ℕ) (value : ℤ) → value ≡ pos major → IsBadMajor sig b subject major → HasMajorPlace sig b subject value → ⊥
 no_major_number sig Cases subject major value is bad (other, (other_is, there)) =
     let P : ℕ → Type 0 = IsMajor sig subject in bad (subst P (pos_inj (sym other_is ∙ is)) there)
 no_major_number sig Apply subject major value is bad (other, (none, there)) = bad (other_value value major is none)

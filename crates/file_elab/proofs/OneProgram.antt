@@ -13,11 +13,11 @@ abbrev text_of_file : List ℕ → List Token → Text
 text_of_file bytes tokens = record { bytes = bytes; tokens = tokens }
 
 -- Where all declarations make a program, none of them is refused over those before it.
-none_refused : {text : Text} {old between new : LfProgram} {declaration : DeclTree} {fault : ElabFault} (front rest : List DeclTree) →
-    DeclaresAll text old (front ++ declaration ∷ rest) new → DeclaresAll text old front between → Refuses text between declaration fault → ⊥
+none_refused : {text : Text} {old between new : LfProgram} {declaration : DeclTree} {fault : ElabFault} (prefix rest : List DeclTree) →
+    DeclaresAll text old (prefix ++ declaration ∷ rest) new → DeclaresAll text old prefix between → Refuses text between declaration fault → ⊥
 none_refused [] rest (declares_next old middle new declaration _ first more) (declares_nothing _) refused = declared_not_refused first refused
-none_refused {text = text} {between = between} (d ∷ front) rest (declares_next old middle new _ _ first more) (declares_next _ other _ _ _ second others) refused =
-    none_refused front rest more (subst (λ p. DeclaresAll text p front between) (one_declared second first) others) refused
+none_refused {text = text} {between = between} (d ∷ prefix) rest (declares_next old middle new _ _ first more) (declares_next _ other _ _ _ second others) refused =
+    none_refused prefix rest more (subst (λ p. DeclaresAll text p prefix between) (one_declared second first) others) refused
 
 pub one_program_of_file : (bytes : List ℕ) (declarations : List DeclTree) (program other : LfProgram) → IsProgram bytes declarations program → IsProgram bytes declarations other → program ≡ other
 one_program_of_file bytes declarations program other (tokens, cut, declared) (others, again, more) =
@@ -25,28 +25,28 @@ one_program_of_file bytes declarations program other (tokens, cut, declared) (ot
 
 pub program_not_refused : (bytes : List ℕ) (declarations : List DeclTree) (program : LfProgram) (fault : ElabFault) → IsProgram bytes declarations program → IsRefused bytes declarations fault → ⊥
 program_not_refused bytes declarations program fault (tokens, cut, declared) refused =
-    none_refused refused.front refused.rest
+    none_refused refused.prefix refused.rest
     (subst₂ (λ ts ds. DeclaresAll (text_of_file bytes ts) first_program ds program) (TokensOf-unique bytes tokens refused.tokens cut refused.cut) refused.parts declared)
     refused.declared refused.refused
 
 -- The declaration that is refused is one, and so is its fault.
-module _ {text : Text} {program other : LfProgram} {front longer : List DeclTree} {declaration last : DeclTree} {fault wrong : ElabFault}
-    (declared : DeclaresAll text first_program front program) (refused : Refuses text program declaration fault)
+module _ {text : Text} {program other : LfProgram} {prefix longer : List DeclTree} {declaration last : DeclTree} {fault wrong : ElabFault}
+    (declared : DeclaresAll text first_program prefix program) (refused : Refuses text program declaration fault)
     (more : DeclaresAll text first_program longer other) (refuses : Refuses text other last wrong) where
-  same_refused : SameEntry front longer declaration last → fault ≡ wrong
+  same_refused : SameEntry prefix longer declaration last → fault ≡ wrong
   same_refused same =
-      let program_is = one_program (subst (λ ds. DeclaresAll text first_program ds other) same.front_is more) declared in
+      let program_is = one_program (subst (λ ds. DeclaresAll text first_program ds other) same.prefix_is more) declared in
       one_fault_of_declaration declaration refused (subst₂ (λ p d. Refuses text p d wrong) program_is same.entry_is refuses)
 
-  before_refused : EntryBefore front longer declaration → ⊥
-  before_refused before = none_refused front before.more (subst (λ ds. DeclaresAll text first_program ds other) before.longer_is more) declared refused
+  before_refused : EntryBefore prefix longer declaration → ⊥
+  before_refused before = none_refused prefix before.more (subst (λ ds. DeclaresAll text first_program ds other) before.longer_is more) declared refused
 
 pub one_fault_of_file : (bytes : List ℕ) (declarations : List DeclTree) (fault other : ElabFault) → IsRefused bytes declarations fault → IsRefused bytes declarations other → fault ≡ other
 one_fault_of_file bytes declarations fault other first second =
     let tokens_are = TokensOf-unique bytes second.tokens first.tokens second.cut first.cut in
-    let more = subst (λ ts. DeclaresAll (text_of_file bytes ts) first_program second.front second.program) tokens_are second.declared in
+    let more = subst (λ ts. DeclaresAll (text_of_file bytes ts) first_program second.prefix second.program) tokens_are second.declared in
     let wrong = subst (λ ts. Refuses (text_of_file bytes ts) second.program second.declaration other) tokens_are second.refused in
-    elim (entries first.front second.front first.rest second.rest first.declaration second.declaration (sym first.parts ∙ second.parts)) [
+    elim (entries first.prefix second.prefix first.rest second.rest first.declaration second.declaration (sym first.parts ∙ second.parts)) [
       | inl same ↦ same_refused first.declared first.refused more wrong same
       | inr (inl before) ↦ absurd (before_refused first.declared first.refused more wrong before)
       | inr (inr before) ↦ absurd (before_refused more wrong first.declared first.refused before)

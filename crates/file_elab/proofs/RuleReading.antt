@@ -20,12 +20,13 @@ use Rattle.rule_sets.specs.Books.{Book, list_of}
 use Rattle.rule_sets.specs.Refusals.{IsNoPercent, HasNoSubject, IsBadMajor, HasBadPremises, IsRuleOver, Adds, IsFirstFault, bad_major, premises}
 use Rattle.rule_sets.specs.Tests.{IsChosen, IsFree}
 use Rattle.basics.proofs.Membership.{not_contained}
-use Rattle.elab_terms.specs.Knowing.{IsRefusal}
+use Rattle.elab_terms.specs.KnownTypes.{IsRefusal}
 use Rattle.elab_terms.specs.Names.{Text, text_at}
 use Rattle.elab_terms.specs.declared.elab_fault.ElabFault.{ElabFault}
 use Rattle.elab_terms.proofs.Reading.{IsRefusal-map}
-use Rattle.file_elab.specs.Programs.{MayBeNamed, most_rules}
-use Rattle.file_elab.specs.Rules.{number_value, ReadsPhase, reads_norm, reads_safe, reads_unsafe, HasPhase, builder_of, family_if, listed_family, subject_of, major_value, HasMajor, ReadsRule, RefusesRule, refuses_number, refuses_subject, refuses_major, refuses_premises}
+use Rattle.basics.specs.Limits.{most_rules}
+use Rattle.file_elab.specs.Programs.{MayBeNamed}
+use Rattle.file_elab.specs.Rules.{number_value, ReadsPhase, reads_norm, reads_safe, reads_unsafe, HasPhase, builder_of, family_if, listed_family, subject_of, major_value, HasMajorPlace, ReadsRule, RefusesRule, refuses_number, refuses_subject, refuses_major, refuses_premises}
 use Rattle.file_elab.specs.ReadRules.{names_in, RefusesPhase, RefusesSubject, RefusesMajor, HasParts, IsReady, RefusesReady, refuses_bad_major, refuses_bad_premises}
 use Rattle.file_elab.proofs.MajorArguments.{major_number, no_major_number}
 
@@ -110,7 +111,7 @@ module _ (text : Text) (sig : LfSignature) (book : Book) (phase : PhaseWord) (nu
   pub major_refused : (chosen : Builder) (found : ℕ) (fault : ElabFault) → chosen ≡ builder_of builder → HasPhase text phase number →
       subject_of sig book chosen (text_at text subject) ≡ Some found → IsRefusal (RefusesMajor text sig chosen found subject major) fault → IsRefusal Refused fault
   major_refused chosen found fault is has there =
-      let P : Builder → Type 0 = λ b. HasMajor sig b found (major_value text major) in
+      let P : Builder → Type 0 = λ b. HasMajorPlace sig b found (major_value text major) in
       IsRefusal-map (RefusesMajor text sig chosen found subject major) Refused
       (λ other e. subst Refused (sym e.0)
       (refuses_major found has (ap (λ b. subject_of sig book b (text_at text subject)) (sym is) ∙ there) (λ h. e.1 (subst P (sym is) h)))) fault

@@ -17,13 +17,13 @@ pub data RefusesNext (text : Text) (sig : LfSignature) (f : ℕ) (constants : Li
   next_other : (constant : ℕ) → place_of (constant_names sig) (text_at text span) ≡ Some constant → (Contains constants constant → ⊥) →
       (HasFamily sig f constant → ⊥) → RefusesNext text sig f constants span (BadRule span.start)
 
--- The names in front are constructors, and the one after them is refused.
+-- The names in prefix are constructors, and the one after them is refused.
 pub record RefusesList (text : Text) (sig : LfSignature) (f : ℕ) (spans : List Span) (fault : ElabFault) : Type 0 where
-  pub front : List Span
+  pub prefix : List Span
   pub span : Span
   pub rest : List Span
-  pub parts : spans ≡ front ++ span ∷ rest
+  pub parts : spans ≡ prefix ++ span ∷ rest
   pub constants : List ℕ
-  pub numbers : AreNumbers text sig front constants
+  pub numbers : AreNumbers text sig prefix constants
   pub constructors : AreConstructors sig f constants
   pub refused : RefusesNext text sig f constants span fault

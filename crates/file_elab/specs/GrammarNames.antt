@@ -1,5 +1,6 @@
 -- The names of a program are names of the grammar.
 use Rattle.std.specs.Prelude.{◌≢◌, ℕ, ◌≤◌, List, length, map, codes, All}
+use Rattle.basics.specs.Limits.{longest_name}
 use Rattle.lf_definitions.specs.Signatures.{names_of}
 use Rattle.lex_text.specs.Characters.{Spells}
 use Rattle.lex_text.specs.Tokens.{IsWord}
@@ -10,7 +11,7 @@ pub record IsGrammarName (name : List ℕ) : Type 0 where
   pub characters : List ℕ
   pub spelled : Spells characters name
   pub word : IsWord characters
-  pub short : length name ≤ 255
+  pub short : length name ≤ longest_name
   pub other : name ≢ codes "type"
 
 pub record HasGrammarNames (program : LfProgram) : Type 0 where

@@ -2,9 +2,9 @@ pub mod Rules
 pub mod Theorems
 pub mod Programs
 pub mod GrammarNames
-pub mod Listing
+pub mod TheoremLists
 pub mod ProgramViews
-pub mod Programming
+pub mod ProgramParts
 pub mod Laws
 pub mod ReadRules
 pub mod Constructors

@@ -1,5 +1,6 @@
 -- The program of a file: its declarations are taken in order, each over those before it, up to the first that is refused.
 use Rattle.std.specs.Prelude.{◌≡◌, ℕ, ◌<◌, ◌≤◌, List, [], ◌∷◌, ◌++◌, length, map, Option, Some, None, Contains}
+use Rattle.basics.specs.Limits.{most_symbols, most_rules, most_theorems}
 use Rattle.lex_text.specs.declared.token.Token.{Token}
 use Rattle.lex_text.specs.Tokens.{TokensOf}
 use Rattle.basics.specs.Places.{place_of}
@@ -47,16 +48,6 @@ pub record MayBeNamed (names : List (List ℕ)) (most : ℕ) (name : List ℕ) :
 pub data RefusesName (names : List (List ℕ)) (most : ℕ) (text : Text) (name : Span) : ElabFault → Type 0 where
   refuses_taken : (place_of names (text_at text name) ≡ None → ⊥) → RefusesName names most text name (Taken name.start)
   refuses_many : place_of names (text_at text name) ≡ None → most ≤ length names → RefusesName names most text name (TooMany name.start)
-
--- the most families and constants together, rules with the built-in ones, and theorems
-abbrev pub most_symbols : ℕ
-most_symbols = 65535
-
-abbrev pub most_rules : ℕ
-most_rules = 10002
-
-abbrev pub most_theorems : ℕ
-most_theorems = 10000
 
 -- the constants of a list, by their names
 pub data AreNumbers (text : Text) (sig : LfSignature) : List Span → List ℕ → Type 0 where
@@ -117,19 +108,19 @@ pub data Refuses (text : Text) (old : LfProgram) : DeclTree → ElabFault → Ty
   refuses_listed : (name : Span) (spans : List Span) (f : ℕ) → place_of (family_names old.signature) (text_at text name) ≡ Some f →
       (list_of old.book.lists f ≡ None → ⊥) → Refuses text old (Ctors name spans) (Taken name.start)
   -- the first of the names that is no constant
-  refuses_listed_name : (name span : Span) (front rest : List Span) (f : ℕ) (constants : List ℕ) → place_of (family_names old.signature) (text_at text name) ≡ Some f →
-      list_of old.book.lists f ≡ None → AreNumbers text old.signature front constants → AreConstructors old.signature f constants →
-      place_of (constant_names old.signature) (text_at text span) ≡ None → Refuses text old (Ctors name (front ++ span ∷ rest)) (Unknown span.start)
+  refuses_listed_name : (name span : Span) (prefix rest : List Span) (f : ℕ) (constants : List ℕ) → place_of (family_names old.signature) (text_at text name) ≡ Some f →
+      list_of old.book.lists f ≡ None → AreNumbers text old.signature prefix constants → AreConstructors old.signature f constants →
+      place_of (constant_names old.signature) (text_at text span) ≡ None → Refuses text old (Ctors name (prefix ++ span ∷ rest)) (Unknown span.start)
   -- or that stands earlier in the list
-  refuses_listed_again : (name span : Span) (front rest : List Span) (f constant : ℕ) (constants : List ℕ) →
-      place_of (family_names old.signature) (text_at text name) ≡ Some f → list_of old.book.lists f ≡ None → AreNumbers text old.signature front constants →
+  refuses_listed_again : (name span : Span) (prefix rest : List Span) (f constant : ℕ) (constants : List ℕ) →
+      place_of (family_names old.signature) (text_at text name) ≡ Some f → list_of old.book.lists f ≡ None → AreNumbers text old.signature prefix constants →
       AreConstructors old.signature f constants → place_of (constant_names old.signature) (text_at text span) ≡ Some constant → Contains constants constant →
-      Refuses text old (Ctors name (front ++ span ∷ rest)) (Taken span.start)
+      Refuses text old (Ctors name (prefix ++ span ∷ rest)) (Taken span.start)
   -- or that is of another family
-  refuses_listed_other : (name span : Span) (front rest : List Span) (f constant : ℕ) (constants : List ℕ) →
-      place_of (family_names old.signature) (text_at text name) ≡ Some f → list_of old.book.lists f ≡ None → AreNumbers text old.signature front constants →
+  refuses_listed_other : (name span : Span) (prefix rest : List Span) (f constant : ℕ) (constants : List ℕ) →
+      place_of (family_names old.signature) (text_at text name) ≡ Some f → list_of old.book.lists f ≡ None → AreNumbers text old.signature prefix constants →
       AreConstructors old.signature f constants → place_of (constant_names old.signature) (text_at text span) ≡ Some constant → (Contains constants constant → ⊥) →
-      (HasFamily old.signature f constant → ⊥) → Refuses text old (Ctors name (front ++ span ∷ rest)) (BadRule span.start)
+      (HasFamily old.signature f constant → ⊥) → Refuses text old (Ctors name (prefix ++ span ∷ rest)) (BadRule span.start)
 
 -- The declarations, from one program on, make another.
 pub data DeclaresAll (text : Text) : LfProgram → List DeclTree → LfProgram → Type 0 where
@@ -150,10 +141,10 @@ IsProgram bytes declarations program = (tokens : List Token) × TokensOf bytes t
 pub record IsRefused (bytes : List ℕ) (declarations : List DeclTree) (fault : ElabFault) : Type 0 where
   pub tokens : List Token
   pub cut : TokensOf bytes tokens
-  pub front : List DeclTree
+  pub prefix : List DeclTree
   pub declaration : DeclTree
   pub rest : List DeclTree
-  pub parts : declarations ≡ front ++ declaration ∷ rest
+  pub parts : declarations ≡ prefix ++ declaration ∷ rest
   pub program : LfProgram
-  pub declared : DeclaresAll (record { bytes = bytes; tokens = tokens }) first_program front program
+  pub declared : DeclaresAll (record { bytes = bytes; tokens = tokens }) first_program prefix program
   pub refused : Refuses (record { bytes = bytes; tokens = tokens }) program declaration fault

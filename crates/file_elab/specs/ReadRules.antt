@@ -12,7 +12,7 @@ use Rattle.rule_sets.specs.Tests.{IsChosen, IsFree}
 use Rattle.elab_terms.specs.Names.{Text, text_at}
 use Rattle.elab_terms.specs.declared.elab_fault.ElabFault.{ElabFault}
 use Rattle.elab_terms.specs.declared.elab_fault.ElabFault.TheVariants.{Unknown, BadRule}
-use Rattle.file_elab.specs.Rules.{number_value, ReadsPhase, HasPhase, builder_of, subject_of, major_value, major_place, HasMajor, set_of}
+use Rattle.file_elab.specs.Rules.{number_value, ReadsPhase, HasPhase, builder_of, subject_of, major_value, major_place, HasMajorPlace, set_of}
 
 abbrev pub names_in : Book → List (List ℕ)
 names_in book = map (λ rule. rule.name) book.rules
@@ -27,11 +27,11 @@ RefusesSubject text sig book builder subject fault = (fault ≡ Unknown subject.
 
 -- and so is a major argument that the subject has not.
 abbrev pub RefusesMajor : Text → LfSignature → Builder → ℕ → Span → Option Span → ElabFault → Type 0
-RefusesMajor text sig builder found subject major fault = (fault ≡ BadRule (major_place subject major)) × (HasMajor sig builder found (major_value text major) → ⊥)
+RefusesMajor text sig builder found subject major fault = (fault ≡ BadRule (major_place subject major)) × (HasMajorPlace sig builder found (major_value text major) → ⊥)
 
 -- An argument that may be chosen has a number of 32 bits.
 abbrev pub FitsMajor : LfSignature → Builder → ℕ → Type 0
-FitsMajor sig builder found = (value : ℤ) → HasMajor sig builder found value → (number : ℕ) × (number < 2 ^ 32) × (value ≡ pos number)
+FitsMajor sig builder found = (value : ℤ) → HasMajorPlace sig builder found value → (number : ℕ) × (number < 2 ^ 32) × (value ≡ pos number)
 
 -- The parts of a rule are read. Of its major argument just the number is known.
 pub record HasParts (text : Text) (sig : LfSignature) (book : Book) (name : List ℕ) (phase : PhaseWord) (number : Span) (builder : BuildWord) (subject : Span)

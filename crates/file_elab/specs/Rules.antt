@@ -22,7 +22,7 @@ use Rattle.elab_terms.specs.declared.elab_fault.ElabFault.TheVariants.{Unknown, 
 abbrev pub digits_value : List ℕ → ℕ
 digits_value digits = fold (λ value digit. value * 10 + (digit - 48)) 0 digits
 
--- the value of a number: digits, or a minus sign and digits
+-- the value of a number: digits, or a minus terminal and digits
 abbrev pub number_value : List ℕ → ℤ
 number_value [] = pos 0
 number_value (first ∷ rest) = if nat_eq first 45 then neg_ℤ (pos (digits_value rest)) else pos (digits_value (first ∷ rest))
@@ -87,8 +87,8 @@ pub record ReadsRule (text : Text) (sig : LfSignature) (book : Book) (name : Spa
 abbrev pub HasPhase : Text → PhaseWord → Span → Type 0
 HasPhase text phase number = (value : Phase) × ReadsPhase phase (number_value (text_at text number)) value
 
-abbrev pub HasMajor : LfSignature → Builder → ℕ → ℤ → Type 0
-HasMajor sig builder subject value = (major : ℕ) × IsMajorNumber sig builder subject value major
+abbrev pub HasMajorPlace : LfSignature → Builder → ℕ → ℤ → Type 0
+HasMajorPlace sig builder subject value = (major : ℕ) × IsMajorNumber sig builder subject value major
 
 -- The first of the parts that is refused: the number, then the subject, then the major argument, then the premises.
 pub data RefusesRule (text : Text) (sig : LfSignature) (book : Book) (phase : PhaseWord) (number : Span) (builder : BuildWord) (subject : Span) (major : Option Span) :
@@ -97,8 +97,8 @@ pub data RefusesRule (text : Text) (sig : LfSignature) (book : Book) (phase : Ph
   refuses_subject : HasPhase text phase number → subject_of sig book (builder_of builder) (text_at text subject) ≡ None →
       RefusesRule text sig book phase number builder subject major (Unknown subject.start)
   refuses_major : (found : ℕ) → HasPhase text phase number → subject_of sig book (builder_of builder) (text_at text subject) ≡ Some found →
-      (HasMajor sig (builder_of builder) found (major_value text major) → ⊥) →
+      (HasMajorPlace sig (builder_of builder) found (major_value text major) → ⊥) →
       RefusesRule text sig book phase number builder subject major (BadRule (major_place subject major))
   refuses_premises : (found : ℕ) → HasPhase text phase number → subject_of sig book (builder_of builder) (text_at text subject) ≡ Some found →
-      HasMajor sig (builder_of builder) found (major_value text major) → HasBadPremises sig (builder_of builder) found →
+      HasMajorPlace sig (builder_of builder) found (major_value text major) → HasBadPremises sig (builder_of builder) found →
       RefusesRule text sig book phase number builder subject major (BadRule subject.start)

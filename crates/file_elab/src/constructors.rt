@@ -6,19 +6,19 @@ ghost use Rattle.lf_definitions.specs.Signatures.{family_kinds, family_names};
 ghost use Rattle.basics.specs.Places.{place_of};
 ghost use Rattle.rule_sets.specs.Books.{list_of};
 ghost use Rattle.rule_sets.specs.Refusals.{AreConstructors, IsOver};
-ghost use Rattle.elab_terms.specs.Knowing.{IsRefusal};
+ghost use Rattle.elab_terms.specs.KnownTypes.{IsRefusal};
 ghost use Rattle.elab_terms.specs.Names.{text_at};
-ghost use Rattle.elab_terms.specs.Sources.{text_in};
+ghost use Rattle.elab_terms.specs.FileTexts.{text_in};
 ghost use Rattle.elab_terms.specs.declared.elab_fault.ElabFault.TheVariants as faults;
 ghost use Rattle.file_elab.specs.Constructors.{RefusesList};
-ghost use Rattle.file_elab.specs.Programming.{DeclaresInBook, RefusesInBook};
+ghost use Rattle.file_elab.specs.ProgramParts.{DeclaresInBook, RefusesInBook};
 ghost use Rattle.file_elab.specs.Programs.{AreNumbers};
 ghost use Rattle.file_trees.specs.declared.span.Span.{Span};
 ghost use Rattle.file_trees.specs.declared.decl_tree.DeclTree.TheVariants as declarations;
 
 use elab_terms::ElabFault;
 use elab_terms::names::{constant_named, family_named};
-use elab_terms::source::{Source, text};
+use elab_terms::file_text::{FileText, text};
 use file_trees::{Span, Spans};
 use indexmap::IndexSet;
 use basics::Ids;
@@ -30,7 +30,7 @@ use std::alloc::Global;
 /// a list, or else the first of the constants that is wrong.
 pub fn declare_constructors(
     alloc: Global,
-    source: &Source<'_>,
+    source: &FileText<'_>,
     sig: &Signature,
     book: &mut RuleBook,
     name: Span,
@@ -52,7 +52,7 @@ pub fn declare_constructors(
 
 // The family of the name, if it has no list of constructors.
 fn unlisted_family(
-    source: &Source<'_>,
+    source: &FileText<'_>,
     sig: &Signature,
     book: &RuleBook,
     name: Span,
@@ -73,7 +73,7 @@ fn unlisted_family(
 // The constants of these names, if each stands once and is of the family.
 fn read_constructors(
     alloc: Global,
-    source: &Source<'_>,
+    source: &FileText<'_>,
     sig: &Signature,
     family: u32,
     spans: &[Span],

@@ -4,8 +4,8 @@ ghost use Rattle.std.specs.Prelude.{◌≡◌, IfOk, IfErr, OnOk, List};
 ghost use Rattle.lex_text.specs.declared.token.Token.{Token};
 ghost use Rattle.lex_text.specs.Tokens.{TokensOf};
 ghost use Rattle.rule_sets.specs.Refusals.{IsOver};
-ghost use Rattle.elab_terms.specs.Knowing.{IsRefusal};
-ghost use Rattle.elab_terms.specs.Sources.{text_in};
+ghost use Rattle.elab_terms.specs.KnownTypes.{IsRefusal};
+ghost use Rattle.elab_terms.specs.FileTexts.{text_in};
 ghost use Rattle.file_elab.specs.GrammarNames.{HasGrammarNames};
 ghost use Rattle.file_elab.specs.ProgramViews.{program_of};
 ghost use Rattle.file_elab.specs.Programs.{IsProgram, IsRefused, IsParsedFrom, Declares, Refuses};
@@ -18,7 +18,7 @@ use crate::symbols::{declare_constant, declare_family};
 use crate::theorem::TheoremList;
 use crate::theorems::declare_theorem;
 use elab_terms::ElabFault;
-use elab_terms::source::Source;
+use elab_terms::file_text::FileText;
 use file_trees::{DeclTree, FileTree};
 use lex_text::tokens::tokens;
 use lex_text::{LexFault, Tokens};
@@ -40,7 +40,7 @@ pub fn elaborate(alloc: Global, bytes: &[u8], tree: &FileTree) -> Result<Program
     ensures refused { IfErr result (IsRefusal (IsRefused bytes.now tree.now.decls)) }
 {
     let cut = cut_again(alloc, bytes)?;
-    let source = Source {
+    let source = FileText {
         bytes,
         tokens: cut.items.as_slice(),
     };
@@ -68,7 +68,7 @@ fn cut_again(alloc: Global, bytes: &[u8]) -> Result<Tokens, NoMemory>
 // The program that the declarations make, from the one with none.
 fn declared(
     alloc: Global,
-    source: &Source<'_>,
+    source: &FileText<'_>,
     declarations: &[DeclTree],
 ) -> Result<Program, ElabFault>
     requires { TokensOf source.now.bytes.now source.now.tokens.now }
@@ -94,7 +94,7 @@ fn declared(
 // Adds what a declaration declares to the program, or answers why not.
 fn declare(
     alloc: Global,
-    source: &Source<'_>,
+    source: &FileText<'_>,
     program: &mut Program,
     declaration: &DeclTree,
 ) -> Result<(), ElabFault>

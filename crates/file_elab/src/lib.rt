@@ -17,6 +17,3 @@ pub use elab_terms::ElabFault;
 pub use elaborating::elaborate;
 pub use program::Program;
 pub use theorem::{Theorem, TheoremList};
-
-#[cfg(test)]
-mod tests;

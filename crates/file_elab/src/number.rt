@@ -17,7 +17,7 @@ fn capped(digits: &[u8]) -> u64
     value
 }
 
-/// A penalty: a number that fits 32 bits with its sign.
+/// A penalty: a number that fits 32 bits with its terminal.
 pub fn penalty(text: &[u8]) -> Option<i32>
     ensures some { IfSome result (λ penalty. (number_value text.now ≡ penalty) × (negsuc 2147483647 ≤ℤ penalty) × (penalty ≤ℤ pos 2147483647)) }
     ensures none { IfNone result (negsuc 2147483647 ≤ℤ number_value text.now → number_value text.now ≤ℤ pos 2147483647 → ⊥) }

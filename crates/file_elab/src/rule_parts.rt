@@ -3,13 +3,13 @@
 ghost use Rattle.std.specs.Prelude.{◌≡◌, ◌<◌, ◌^◌, ℕ, pos, IfOk, IfSome, IfNone};
 ghost use Rattle.elab_terms.specs.Names.{text_at};
 ghost use Rattle.file_elab.specs.Rules.{number_value, ReadsPhase, builder_of, subject_of, major_value, set_of};
-ghost use Rattle.elab_terms.specs.Sources.{text_in};
+ghost use Rattle.elab_terms.specs.FileTexts.{text_in};
 ghost use Rattle.rule_sets.specs.declared.rule.Phase.{Phase};
 ghost use Rattle.rule_sets.specs.Tests.{IsChosen};
 
 use crate::number::{natural, penalty};
 use elab_terms::names::{constant_named, family_named};
-use elab_terms::source::{Source, text};
+use elab_terms::file_text::{FileText, text};
 use file_trees::{BuildWord, PhaseWord, Span};
 use basics::{Name, NoMemory};
 use lf_terms::Signature;
@@ -74,7 +74,7 @@ pub fn read_subject(sig: &Signature, book: &RuleBook, builder: Builder, name: &[
 }
 
 /// The number of the major argument, which is 0 where there is none.
-pub fn read_major(source: &Source<'_>, major: Option<Span>) -> Option<u32>
+pub fn read_major(source: &FileText<'_>, major: Option<Span>) -> Option<u32>
     ensures some { IfSome result (λ number. major_value (text_in source.now) major ≡ pos number) }
     ensures none { IfNone result ((number : ℕ) → number < 2 ^ 32 → major_value (text_in source.now) major ≡ pos number → ⊥) }
 {
@@ -85,7 +85,7 @@ pub fn read_major(source: &Source<'_>, major: Option<Span>) -> Option<u32>
 }
 
 /// The set that a rule is in.
-pub fn read_set(alloc: Global, source: &Source<'_>, set: Option<Span>) -> Result<Name, NoMemory>
+pub fn read_set(alloc: Global, source: &FileText<'_>, set: Option<Span>) -> Result<Name, NoMemory>
     ensures { IfOk result (λ name. name ≡ set_of (text_in source.now) set) }
 {
     match set {

@@ -4,34 +4,33 @@ ghost use Rattle.std.specs.Prelude.{◌≡◌, ◌<◌, ◌++◌, [], ◌∷◌,
 ghost use Rattle.lf_definitions.specs.Signatures.{constant_names};
 ghost use Rattle.lex_text.specs.Tokens.{TokensOf};
 ghost use Rattle.rule_sets.specs.Refusals.{IsRuleOver, IsOver};
-ghost use Rattle.elab_terms.specs.Knowing.{IsRefusal};
+ghost use Rattle.elab_terms.specs.KnownTypes.{IsRefusal};
 ghost use Rattle.elab_terms.specs.Names.{text_at};
-ghost use Rattle.elab_terms.specs.Sources.{text_in};
-ghost use Rattle.file_elab.specs.Programming.{DeclaresInBook, RefusesInBook};
-ghost use Rattle.file_elab.specs.Programs.{MayBeNamed, RefusesName, most_rules};
+ghost use Rattle.elab_terms.specs.FileTexts.{text_in};
+ghost use Rattle.file_elab.specs.ProgramParts.{DeclaresInBook, RefusesInBook};
+ghost use Rattle.basics.specs.Limits.{most_rules};
+ghost use Rattle.file_elab.specs.Programs.{MayBeNamed, RefusesName};
 ghost use Rattle.file_elab.specs.ReadRules.{names_in, RefusesPhase, RefusesSubject, RefusesMajor, FitsMajor, HasParts, IsReady, RefusesReady};
 ghost use Rattle.file_elab.specs.Rules.{number_value, ReadsPhase, subject_of, major_value, major_place, RefusesRule};
 ghost use Rattle.file_trees.specs.declared.decl_tree.DeclTree.TheVariants as declarations;
 ghost use Rattle.rule_sets.specs.declared.rule.Builder.TheVariants as builders;
 
+use basics::limits::MOST_RULES;
 use crate::rule_parts::{read_builder, read_major, read_phase, read_set, read_subject};
 use elab_terms::ElabFault;
-use elab_terms::source::{Source, text};
+use elab_terms::file_text::{FileText, text};
 use file_trees::{BuildWord, PhaseWord, Span};
 use basics::Name;
 use lf_terms::Signature;
 use rule_sets::{Builder, Phase, Rule, RuleBook, RuleFault};
 use std::alloc::Global;
 
-// The most rules of a book, with the built-in ones.
-const MOST_RULES: u32 = 10_002;
-
 /// Declares a rule: its parts are read from the text, and it is added to the book after the others. The
 /// error is the first thing that is wrong with it, of its name, its number, its subject, its major
-/// argument and its premises, or want of memory. A book that was over the signature stays so.
+/// argument and its premises, or out of memory. A book that was over the signature stays so.
 pub fn declare_rule(
     alloc: Global,
-    source: &Source<'_>,
+    source: &FileText<'_>,
     sig: &Signature,
     book: &mut RuleBook,
     name: Span,
@@ -64,7 +63,7 @@ pub fn declare_rule(
 // The name of a rule that is declared.
 fn rule_name(
     alloc: Global,
-    source: &Source<'_>,
+    source: &FileText<'_>,
     book: &RuleBook,
     name: Span,
 ) -> Result<Name, ElabFault>
@@ -85,7 +84,7 @@ fn rule_name(
 // The rule of a declaration, with the number of its major argument as it stands there.
 fn read_rule(
     alloc: Global,
-    source: &Source<'_>,
+    source: &FileText<'_>,
     sig: &Signature,
     book: &RuleBook,
     name: Name,
@@ -121,7 +120,7 @@ fn read_rule(
 }
 
 // The phase of a rule.
-fn rule_phase(source: &Source<'_>, word: PhaseWord, number: Span) -> Result<Phase, ElabFault>
+fn rule_phase(source: &FileText<'_>, word: PhaseWord, number: Span) -> Result<Phase, ElabFault>
     ensures read { IfOk result (ReadsPhase word (number_value (text_at (text_in source.now) number))) }
     ensures refused { IfErr result (RefusesPhase (text_in source.now) word number) }
 {
@@ -133,7 +132,7 @@ fn rule_phase(source: &Source<'_>, word: PhaseWord, number: Span) -> Result<Phas
 
 // The number of what a rule is made of.
 fn rule_subject(
-    source: &Source<'_>,
+    source: &FileText<'_>,
     sig: &Signature,
     book: &RuleBook,
     builder: Builder,
@@ -151,7 +150,7 @@ fn rule_subject(
 // The number of the major argument. A number that is none of 32 bits is refused here; that the subject
 // has the argument is for the book to say.
 fn rule_major(
-    source: &Source<'_>,
+    source: &FileText<'_>,
     sig: &Signature,
     builder: Builder,
     found: u32,

@@ -3,28 +3,27 @@
 ghost use Rattle.std.specs.Prelude.{◌≡◌, IfOk, IfErr};
 ghost use Rattle.lf_definitions.specs.Signatures.{names_of};
 ghost use Rattle.lex_text.specs.Tokens.{TokensOf};
-ghost use Rattle.elab_terms.specs.Knowing.{IsRefusal};
+ghost use Rattle.elab_terms.specs.KnownTypes.{IsRefusal};
 ghost use Rattle.elab_terms.specs.Names.{text_at};
-ghost use Rattle.file_elab.specs.Programming.{DeclaresSymbol, RefusesSymbol};
-ghost use Rattle.file_elab.specs.Programs.{MayBeNamed, RefusesName, most_symbols};
-ghost use Rattle.elab_terms.specs.Sources.{text_in};
+ghost use Rattle.file_elab.specs.ProgramParts.{DeclaresSymbol, RefusesSymbol};
+ghost use Rattle.basics.specs.Limits.{most_symbols};
+ghost use Rattle.file_elab.specs.Programs.{MayBeNamed, RefusesName};
+ghost use Rattle.elab_terms.specs.FileTexts.{text_in};
 ghost use Rattle.file_trees.specs.declared.decl_tree.DeclTree.TheVariants as declarations;
 
+use basics::limits::MOST_SYMBOLS;
 use elab_terms::ElabFault;
 use elab_terms::closed::{closed_kind, closed_type};
-use elab_terms::source::{Source, text};
+use elab_terms::file_text::{FileText, text};
 use file_trees::{Span, TypeTree};
 use basics::Name;
 use lf_terms::Signature;
 use std::alloc::Global;
 
-// The most families and constants together.
-const MOST_SYMBOLS: u32 = 65_535;
-
 // The name of a family or a constant that is declared.
 fn symbol_name(
     alloc: Global,
-    source: &Source<'_>,
+    source: &FileText<'_>,
     sig: &Signature,
     name: Span,
 ) -> Result<Name, ElabFault>
@@ -45,7 +44,7 @@ fn symbol_name(
 /// Declares a family with its kind, or answers why not.
 pub fn declare_family(
     alloc: Global,
-    source: &Source<'_>,
+    source: &FileText<'_>,
     sig: &mut Signature,
     name: Span,
     tree: &TypeTree,
@@ -71,7 +70,7 @@ pub fn declare_family(
 /// Declares a constant with its type, or answers why not.
 pub fn declare_constant(
     alloc: Global,
-    source: &Source<'_>,
+    source: &FileText<'_>,
     sig: &mut Signature,
     name: Span,
     tree: &TypeTree,

@@ -4,6 +4,7 @@ ghost use Rattle.std.specs.Prelude.{◌≡◌, ◌<◌, ℕ, ◌++◌, [], ◌�
 ghost use Rattle.basics.specs.Places.{place_of, IsNew};
 ghost use Rattle.lf_terms.specs.Types.{type_of};
 ghost use Rattle.file_elab.specs.ProgramViews.{theorem_of};
+ghost use Rattle.basics.specs.Limits.{most_theorems};
 
 use basics::{Name, Names, NoMemory};
 use lf_terms::Ty;
@@ -28,7 +29,7 @@ pub struct TheoremList {
 impl Model for TheoremList {
     ghost use Rattle.std.specs.Prelude.{List, map};
     ghost use Rattle.file_elab.specs.Theorems.{LfTheorem, theorems_code};
-    ghost use Rattle.file_elab.specs.Listing.{IsListed};
+    ghost use Rattle.file_elab.specs.TheoremLists.{IsListed};
 
     ghost Value = { List LfTheorem };
 
@@ -80,7 +81,7 @@ impl TheoremList {
     /// Adds a theorem with a new name at the end. A refusal leaves the list as it was.
     pub fn push(&mut self, alloc: Global, theorem: Theorem) -> Result<(), NoMemory>
         requires is_new { IsNew (map (λ other. other.name) self.old) theorem.name }
-        requires room { length self.old < 10000 }
+        requires room { length self.old < most_theorems }
         ensures ok { OnOk result (self.new ≡ self.old ++ theorem_of theorem ∷ []) }
         ensures err { OnErr result (self.new ≡ self.old) }
     {

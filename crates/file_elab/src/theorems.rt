@@ -2,30 +2,29 @@
 
 ghost use Rattle.std.specs.Prelude.{◌≡◌, ℕ, List, map, IfOk, IfErr, OnOk};
 ghost use Rattle.lex_text.specs.Tokens.{TokensOf};
-ghost use Rattle.elab_terms.specs.Knowing.{IsRefusal};
+ghost use Rattle.elab_terms.specs.KnownTypes.{IsRefusal};
 ghost use Rattle.elab_terms.specs.Names.{text_at};
-ghost use Rattle.elab_terms.specs.Sources.{text_in};
-ghost use Rattle.file_elab.specs.Programming.{DeclaresTheorem, RefusesTheorem};
-ghost use Rattle.file_elab.specs.Programs.{MayBeNamed, RefusesName, most_theorems};
+ghost use Rattle.elab_terms.specs.FileTexts.{text_in};
+ghost use Rattle.file_elab.specs.ProgramParts.{DeclaresTheorem, RefusesTheorem};
+ghost use Rattle.basics.specs.Limits.{most_theorems};
+ghost use Rattle.file_elab.specs.Programs.{MayBeNamed, RefusesName};
 ghost use Rattle.file_elab.specs.Theorems.{AreFormed};
 ghost use Rattle.file_trees.specs.declared.decl_tree.DeclTree.TheVariants as declarations;
 
+use basics::limits::MOST_THEOREMS;
 use crate::theorem::{Theorem, TheoremList};
 use elab_terms::ElabFault;
 use elab_terms::closed::closed_type;
-use elab_terms::source::{Source, text};
+use elab_terms::file_text::{FileText, text};
 use file_trees::{Span, TypeTree};
 use basics::Name;
 use lf_terms::Signature;
 use std::alloc::Global;
 
-// The most theorems.
-const MOST_THEOREMS: usize = 10_000;
-
 // The name of a theorem that is declared.
 fn theorem_name(
     alloc: Global,
-    source: &Source<'_>,
+    source: &FileText<'_>,
     theorems: &TheoremList,
     name: Span,
 ) -> Result<Name, ElabFault>
@@ -46,7 +45,7 @@ fn theorem_name(
 /// Declares a theorem with its type, which is well formed, or answers why not.
 pub fn declare_theorem(
     alloc: Global,
-    source: &Source<'_>,
+    source: &FileText<'_>,
     sig: &Signature,
     theorems: &mut TheoremList,
     name: Span,

@@ -1,4 +1,4 @@
--- What stood in a text before it grew still stands at its front.
+-- What stood in a text before it grew still stands at its prefix.
 use Rattle.std.proofs.Common.{◌≡◌, ℕ, ◌≤◌, List, ◌++◌, length, take, sym, ap, ◌∙◌, arith, length-take}
 use Rattle.std.proofs.lemmas.List.{take_all, take-take, take-append-le}
 use Rattle.std.specs.Io.{StartsWith}

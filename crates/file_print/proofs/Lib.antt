@@ -1,7 +1,7 @@
 pub mod Occurrences
 pub mod PlacedMarks
 pub mod MarkSteps
-pub mod MarkFronts
+pub mod MarkPrefixes
 mod KeptTexts
 pub mod TextSteps
 pub mod TestValues

@@ -17,7 +17,7 @@ use Rattle.file_print.specs.Parts.{argument_text, binder_text}
 use Rattle.file_print.specs.Printable.{IsPrintable, ArePrintable, IsPrintableType}
 use Rattle.file_print.specs.Texts.{args_text, has_binders, type_text}
 use Rattle.file_print.proofs.KeptTexts.{kept_unchanged, kept_appended, kept_later}
-use Rattle.file_print.proofs.MarkFronts.{front_within, front_mark, front_later, front_first, front_then}
+use Rattle.file_print.proofs.MarkPrefixes.{prefix_within, prefix_mark, prefix_later, prefix_first, prefix_then}
 use Rattle.file_print.proofs.MarkSteps.{spine_of-drop}
 
 -- Arguments: those before a place are printed, and the rest is still to come.
@@ -93,8 +93,8 @@ binder_asked sig items end marks i old_depth depth old_place place old out t wit
     let marked : HaveAt marks place (mentions 0 b ∷ (marks_of a ++ marks_of b)) = subst Q split before.marked in
     record {
       printable = both.0;
-      within = front_within marks place (mentions 0 b) (marks_of a ++ marks_of b) marked;
-      marked = front_first marks (place + 1) (marks_of a) (marks_of b) (front_later marks place (mentions 0 b) (marks_of a ++ marks_of b) marked);
+      within = prefix_within marks place (mentions 0 b) (marks_of a ++ marks_of b) marked;
+      marked = prefix_first marks (place + 1) (marks_of a) (marks_of b) (prefix_later marks place (mentions 0 b) (marks_of a ++ marks_of b) marked);
     }
 
 pub binder_printed : (sig : LfSignature) (items : List Ty) (end : LfType) (marks : List Bool) (i old_depth depth old_place place : ℕ) (old out : List ℕ) (t : Ty) (depth' place' : ℕ) (new : List ℕ) →
@@ -111,10 +111,10 @@ binder_printed sig items end marks i old_depth depth old_place place old out t d
     let both : IsPrintableType sig depth (pi a b) = subst P split before.printable in
     let marked : HaveAt marks place (mentions 0 b ∷ (marks_of a ++ marks_of b)) = subst Q split before.marked in
     let inside : depth' ≡ suc depth = deep ∙ add-one depth in
-    let printed : new ≡ out ++ binder_text sig depth (mentions 0 b) a = here ∙ ap (λ m. out ++ binder_text sig depth m a) (front_mark marks place (mentions 0 b) (marks_of a ++ marks_of b) marked) in
+    let printed : new ≡ out ++ binder_text sig depth (mentions 0 b) a = here ∙ ap (λ m. out ++ binder_text sig depth m a) (prefix_mark marks place (mentions 0 b) (marks_of a ++ marks_of b) marked) in
     record {
       printable = subst R (sym inside) both.1;
-      marked = front_then marks (place + 1) place' (marks_of a) (marks_of b) after (front_later marks place (mentions 0 b) (marks_of a ++ marks_of b) marked);
+      marked = prefix_then marks (place + 1) place' (marks_of a) (marks_of b) after (prefix_later marks place (mentions 0 b) (marks_of a ++ marks_of b) marked);
       places = omega (arith, after, before.places, ap (λ c. length (marks_of c)) split, length-append (marks_of a) (marks_of b));
       rest = ap₂ (λ l d. l ++ type_text sig d b) printed inside ∙ append_assoc out (binder_text sig depth (mentions 0 b) a) (type_text sig (suc depth) b)
           ∙ ap (λ c. out ++ type_text sig depth c) (sym split) ∙ before.rest;

@@ -24,4 +24,4 @@ ArePlaces places marks = All (λ place. place < length marks) places
 
 -- From this place on the marks begin with these.
 abbrev pub HaveAt : List Bool → ℕ → List Bool → Type 0
-HaveAt marks place front = (rest : List Bool) × (drop place marks ≡ front ++ rest)
+HaveAt marks place prefix = (rest : List Bool) × (drop place marks ≡ prefix ++ rest)

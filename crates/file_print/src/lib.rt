@@ -8,6 +8,3 @@ mod numerals;
 pub mod printing;
 
 pub use printing::{print_term, print_type};
-
-#[cfg(test)]
-mod tests;

@@ -16,7 +16,7 @@ use lf_terms::{Head, Signature, Term, Terms, Ty};
 use std::alloc::Global;
 
 /// Adds the text of a term that stands under so many binders. It names each variable by the number of
-/// binders around its own. Its time is linear in the length of the text. For want of memory `out` is as it was.
+/// binders around its own. Its time is linear in the length of the text. When memory runs out `out` is as it was.
 pub fn print_term(sig: &Signature, depth: u32, term: &Term, out: &mut Bytes) -> Result<(), NoMemory>
     requires { IsPrintable sig.now depth (term_of term.now) }
     ensures ok { OnOk result (out.new ≡ out.old ++ term_text sig.now depth (term_of term.now)) }
@@ -31,7 +31,7 @@ pub fn print_term(sig: &Signature, depth: u32, term: &Term, out: &mut Bytes) -> 
 }
 
 /// Adds the text of a type that stands under so many binders. Its time is linear in the length of the text.
-/// For want of memory `out` is as it was.
+/// When memory runs out `out` is as it was.
 pub fn print_type(
     alloc: Global,
     sig: &Signature,

@@ -1,14 +1,14 @@
 -- What was read from the start can always be completed to a file.
 use Rattle.std.proofs.Common.{◌≡◌, if◌then◌else◌, List, [], ◌∷◌, ◌++◌, Option, Some, None, refl, sym, subst}
 use Rattle.file_trees.specs.declared.span.Span.{Span}
-use Rattle.file_syntax.specs.declared.sign.Keyword.{Keyword}
-use Rattle.file_syntax.specs.declared.sign.Keyword.TheVariants.{Family as family_word, Const as const_word, Theorem as theorem_word, Data as data_word, Rule as rule_word, Norm as norm_word, Apply as apply_word, Other as other_word}
-use Rattle.file_syntax.specs.declared.sign.Sign.{Sign}
-use Rattle.file_syntax.specs.declared.sign.Sign.TheVariants.{TypeWord, Word, Var, Number, Colon, Dot, Equals, Arrow, LParen, RParen, LBrace, RBrace, LBracket, RBracket}
+use Rattle.file_syntax.specs.declared.terminal.Keyword.{Keyword}
+use Rattle.file_syntax.specs.declared.terminal.Keyword.TheVariants.{Family as family_word, Const as const_word, Theorem as theorem_word, Data as data_word, Rule as rule_word, Norm as norm_word, Apply as apply_word, Other as other_word}
+use Rattle.file_syntax.specs.declared.terminal.Terminal.{Terminal}
+use Rattle.file_syntax.specs.declared.terminal.Terminal.TheVariants.{TypeWord, Word, Var, Number, Colon, Dot, Equals, Arrow, LParen, RParen, LBrace, RBrace, LBracket, RBracket}
 use Rattle.file_trees.specs.declared.decl_tree.DeclTree.{DeclTree}
 use Rattle.file_trees.specs.declared.decl_tree.PhaseWord.{PhaseWord}
 use Rattle.file_trees.specs.declared.decl_tree.BuildWord.{BuildWord}
-use Rattle.file_syntax.specs.declared.state.Goal.{Goal}
+use Rattle.file_syntax.specs.declared.state.Goal.{Purpose}
 use Rattle.file_syntax.specs.declared.state.Goal.TheVariants.{Family as goal_family, Const as goal_const, Theorem as goal_theorem}
 use Rattle.file_syntax.specs.declared.state.RulePart.{RulePart}
 use Rattle.file_syntax.specs.declared.state.RulePart.TheVariants.{ToName, ToColon, ToPhase, ToNumber, ToBuilder, ToSubject, PastSubject, ToMajor, PastMajor, ToSet, PastSet}
@@ -20,7 +20,7 @@ use Rattle.file_syntax.specs.declared.state.Frame.{Frame}
 use Rattle.file_syntax.specs.declared.state.Frame.TheVariants.{Declared, Brace, Group, Argument}
 use Rattle.file_syntax.specs.declared.state.State.{State}
 use Rattle.file_trees.specs.Trees.{Tree, leaf, applied, Classifier, family, star, Binding, pi_of, arrow_of, bind}
-use Rattle.file_syntax.specs.Productions.{joined, up_to}
+use Rattle.file_syntax.specs.Productions.{joined_arguments, up_to}
 use Rattle.file_syntax.specs.Reading.{at_top, went_on, ended, abstracted, close_type, close_kind, close_term, no_argument, term_arguments, family_arguments, stands_at_kind, move, stepped, run}
 use Rattle.file_syntax.specs.Reading.{started, begun, next_part, ended_rule, typed}
 use Rattle.file_syntax.proofs.Endings.{Ends}
@@ -93,7 +93,7 @@ star-fits : (decls : List DeclTree) (frames : List Frame) (bindings : List Bindi
 star-fits decls (Declared goal_family named ∷ frames) bindings span = tt
 star-fits decls _ bindings span = tt
 
-close-fits : (decls : List DeclTree) (frames : List Frame) (classifier : Classifier) (sign : Sign) → TypeOpen frames → FitsSome (close_type decls frames classifier sign)
+close-fits : (decls : List DeclTree) (frames : List Frame) (classifier : Classifier) (terminal : Terminal) → TypeOpen frames → FitsSome (close_type decls frames classifier terminal)
 close-fits decls (Declared goal named ∷ frames) classifier (Dot span) f = ended-fits decls frames (typed goal named classifier)
 close-fits decls (Brace bindings binder ∷ frames) classifier (RBrace span) f = f
 close-fits decls (Group bindings ∷ frames) classifier (RParen span) f = f
@@ -108,24 +108,24 @@ close_term-fits decls (Argument (of_family bindings span) items ∷ frames) tree
 close_term-fits decls (Argument (of_term binders) items ∷ frames) tree f = f
 close_term-fits decls _ tree f = tt
 
-term-fits : (decls : List DeclTree) (frames : List Frame) (binders : List Span) (items : List Tree) (sign : Sign) → TermOpen frames →
-    FitsSome (term_arguments decls frames binders items sign)
+term-fits : (decls : List DeclTree) (frames : List Frame) (binders : List Span) (items : List Tree) (terminal : Terminal) → TermOpen frames →
+    FitsSome (term_arguments decls frames binders items terminal)
 term-fits decls frames binders [] (LBracket span) f = f
 term-fits decls frames binders (tree ∷ items) (RParen span) f = close_term-fits decls frames (abstracted binders (applied tree items)) f
 term-fits decls frames binders _ _ f = tt
 
-family-fits : (decls : List DeclTree) (frames : List Frame) (bindings : List Binding) (span : Span) (items : List Tree) (sign : Sign) → TypeOpen frames →
-    FitsSome (family_arguments decls frames bindings span items sign)
+family-fits : (decls : List DeclTree) (frames : List Frame) (bindings : List Binding) (span : Span) (items : List Tree) (terminal : Terminal) → TypeOpen frames →
+    FitsSome (family_arguments decls frames bindings span items terminal)
 family-fits decls frames bindings span items (Arrow arrow_span) f = f
-family-fits decls frames bindings span items sign f = close-fits decls frames (bind bindings (family span items)) sign f
+family-fits decls frames bindings span items terminal f = close-fits decls frames (bind bindings (family span items)) terminal f
 
-owner-fits : (decls : List DeclTree) (frames : List Frame) (owner : Owner) (items : List Tree) (sign : Sign) → OwnerOpen owner frames →
-    FitsSome (no_argument decls frames owner items sign)
-owner-fits decls frames (of_family bindings span) items sign f = family-fits decls frames bindings span items sign f
-owner-fits decls frames (of_term binders) items sign f = term-fits decls frames binders items sign f
+owner-fits : (decls : List DeclTree) (frames : List Frame) (owner : Owner) (items : List Tree) (terminal : Terminal) → OwnerOpen owner frames →
+    FitsSome (no_argument decls frames owner items terminal)
+owner-fits decls frames (of_family bindings span) items terminal f = family-fits decls frames bindings span items terminal f
+owner-fits decls frames (of_term binders) items terminal f = term-fits decls frames binders items terminal f
 
 -- Each step keeps what is being read fit for what is open.
-pub move-fits : (decls : List DeclTree) (frames : List Frame) (top : Top) (sign : Sign) → Fits top frames → FitsSome (move decls frames top sign)
+pub move-fits : (decls : List DeclTree) (frames : List Frame) (top : Top) (terminal : Terminal) → Fits top frames → FitsSome (move decls frames top terminal)
 move-fits decls frames Between (Word word span) f = begun-fits decls frames word
 move-fits decls frames Between _ f = tt
 move-fits decls frames (GoalName goal) (Word word span) f = tt
@@ -140,7 +140,7 @@ move-fits decls frames (DataNames named names) (Word word span) f = tt
 move-fits decls frames (DataNames named names) (Dot span) f = tt
 move-fits decls frames (DataNames named names) _ f = tt
 move-fits decls frames (InRule part) (Dot span) f = ended-fits decls frames (ended_rule part)
-move-fits decls frames (InRule part) sign f = went-fits decls frames (next_part part sign)
+move-fits decls frames (InRule part) terminal f = went-fits decls frames (next_part part terminal)
 move-fits decls frames (TypeStart bindings) (TypeWord span) f = star-fits decls frames bindings span
 move-fits decls frames (TypeStart bindings) (LBrace span) f = f
 move-fits decls frames (TypeStart bindings) (LParen span) f = f
@@ -152,35 +152,35 @@ move-fits decls frames (PiName bindings brace) _ f = tt
 move-fits decls frames (PiColon bindings brace) (Colon span) f = f
 move-fits decls frames (PiColon bindings brace) _ f = tt
 move-fits decls frames (GroupEnd bindings inner) (Arrow span) f = f
-move-fits decls frames (GroupEnd bindings inner) sign f = close-fits decls frames (bind bindings inner) sign f
+move-fits decls frames (GroupEnd bindings inner) terminal f = close-fits decls frames (bind bindings inner) terminal f
 move-fits decls frames (StarEnd bindings word) (Dot span) f = kind-fits decls frames (bind bindings (star word))
 move-fits decls frames (StarEnd bindings word) _ f = tt
 move-fits decls frames (Arguments owner items) (Word word span) f = f
 move-fits decls frames (Arguments owner items) (Var span) f = f
 move-fits decls frames (Arguments (of_family bindings head) items) (LParen span) f = f
 move-fits decls frames (Arguments (of_term binders) items) (LParen span) f = f
-move-fits decls frames (Arguments owner items) sign f = owner-fits decls frames owner items sign f
+move-fits decls frames (Arguments owner items) terminal f = owner-fits decls frames owner items terminal f
 move-fits decls frames (AbsName binders bracket) (Word word span) f = f
 move-fits decls frames (AbsName binders bracket) (Var span) f = f
 move-fits decls frames (AbsName binders bracket) _ f = tt
 move-fits decls frames (AbsClose binders bracket) (RBracket span) f = f
 move-fits decls frames (AbsClose binders bracket) _ f = tt
 
-stepped-fits : (state : Option State) (sign : Sign) → FitsSome state → FitsSome (stepped state sign)
-stepped-fits None sign f = tt
-stepped-fits (Some state) sign f = move-fits state.decls state.frames state.top sign f
+stepped-fits : (state : Option State) (terminal : Terminal) → FitsSome state → FitsSome (stepped state terminal)
+stepped-fits None terminal f = tt
+stepped-fits (Some state) terminal f = move-fits state.decls state.frames state.top terminal f
 
-pub run-fits : (signs : List Sign) (state : Option State) → FitsSome state → FitsSome (run signs state)
+pub run-fits : (terminals : List Terminal) (state : Option State) → FitsSome state → FitsSome (run terminals state)
 run-fits [] state f = f
-run-fits (sign ∷ signs) state f = run-fits signs (stepped state sign) (stepped-fits state sign f)
+run-fits (terminal ∷ terminals) state f = run-fits terminals (stepped state terminal) (stepped-fits state terminal f)
 
--- signs that complete what was read to a file
+-- terminals that complete what was read to a file
 pub record Completed (decls : List DeclTree) (frames : List Frame) (top : Top) : Type 0 where
-  pub more : List Sign
+  pub more : List Terminal
   pub final : List DeclTree
   pub ends : Ends more (at_top decls frames top) final
 
--- the span of the signs of a completion
+-- the span of the terminals of a completion
 abbrev nowhere : Span
 nowhere = record { start = 0; end = 0 }
 
@@ -222,41 +222,41 @@ finish_term (Brace bindings span ∷ frames) f decls binders tree items = absurd
 finish_term (Group bindings ∷ frames) f decls binders tree items = absurd f
 finish_term [] f decls binders tree items = absurd f
 
--- a sign before a completion
-after_sign : {decls next_decls : List DeclTree} {frames next_frames : List Frame} {top next : Top} (sign : Sign) →
-    move decls frames top sign ≡ at_top next_decls next_frames next → Completed next_decls next_frames next → Completed decls frames top
-after_sign sign h r = record { more = sign ∷ r.more; final = r.final; ends = subst (λ s. Ends r.more s r.final) (sym h) r.ends }
+-- a terminal before a completion
+after_terminal : {decls next_decls : List DeclTree} {frames next_frames : List Frame} {top next : Top} (terminal : Terminal) →
+    move decls frames top terminal ≡ at_top next_decls next_frames next → Completed next_decls next_frames next → Completed decls frames top
+after_terminal terminal h r = record { more = terminal ∷ r.more; final = r.final; ends = subst (λ s. Ends r.more s r.final) (sym h) r.ends }
 
 finish_start : (frames : List Frame) → TypeOpen frames → (decls : List DeclTree) (bindings : List Binding) → Completed decls frames (TypeStart bindings)
-finish_start frames f decls bindings = after_sign (Word other_word nowhere) refl (finish_family frames f decls bindings nowhere [])
+finish_start frames f decls bindings = after_terminal (Word other_word nowhere) refl (finish_family frames f decls bindings nowhere [])
 
-finish_goal : (goal : Goal) (named : Span) (decls : List DeclTree) (frames : List Frame) → Completed decls frames (GoalColon goal named)
-finish_goal goal named decls frames = after_sign (Colon nowhere) refl (finish_start (Declared goal named ∷ frames) tt decls [])
+finish_goal : (goal : Purpose) (named : Span) (decls : List DeclTree) (frames : List Frame) → Completed decls frames (GoalColon goal named)
+finish_goal goal named decls frames = after_terminal (Colon nowhere) refl (finish_start (Declared goal named ∷ frames) tt decls [])
 
 finish_names : (decls : List DeclTree) (frames : List Frame) (named : Span) (names : List Span) → Completed decls frames (DataNames named names)
 finish_names decls frames named names = record { more = Dot nowhere ∷ []; final = _; ends = (refl, refl) }
 
 finish_equals : (decls : List DeclTree) (frames : List Frame) (named : Span) → Completed decls frames (DataEquals named)
-finish_equals decls frames named = after_sign (Equals nowhere) refl (finish_names decls frames named [])
+finish_equals decls frames named = after_terminal (Equals nowhere) refl (finish_names decls frames named [])
 
 finish_subject : (decls : List DeclTree) (frames : List Frame) (named : Span) (phase : PhaseWord) (number : Span) (builder : BuildWord) →
     Completed decls frames (InRule (ToSubject named phase number builder))
 finish_subject decls frames named phase number builder = record { more = Word other_word nowhere ∷ Dot nowhere ∷ []; final = _; ends = (refl, refl) }
 
 finish_builder : (decls : List DeclTree) (frames : List Frame) (named : Span) (phase : PhaseWord) (number : Span) → Completed decls frames (InRule (ToBuilder named phase number))
-finish_builder decls frames named phase number = after_sign (Word apply_word nowhere) refl (finish_subject decls frames named phase number _)
+finish_builder decls frames named phase number = after_terminal (Word apply_word nowhere) refl (finish_subject decls frames named phase number _)
 
 finish_number : (decls : List DeclTree) (frames : List Frame) (named : Span) (phase : PhaseWord) → Completed decls frames (InRule (ToNumber named phase))
-finish_number decls frames named phase = after_sign (Number nowhere) refl (finish_builder decls frames named phase nowhere)
+finish_number decls frames named phase = after_terminal (Number nowhere) refl (finish_builder decls frames named phase nowhere)
 
 finish_phase : (decls : List DeclTree) (frames : List Frame) (named : Span) → Completed decls frames (InRule (ToPhase named))
-finish_phase decls frames named = after_sign (Word norm_word nowhere) refl (finish_number decls frames named _)
+finish_phase decls frames named = after_terminal (Word norm_word nowhere) refl (finish_number decls frames named _)
 
 finish_colon : (decls : List DeclTree) (frames : List Frame) (named : Span) → Completed decls frames (InRule (ToColon named))
-finish_colon decls frames named = after_sign (Colon nowhere) refl (finish_phase decls frames named)
+finish_colon decls frames named = after_terminal (Colon nowhere) refl (finish_phase decls frames named)
 
 finish_rule : (part : RulePart) (decls : List DeclTree) (frames : List Frame) → Completed decls frames (InRule part)
-finish_rule ToName decls frames = after_sign (Word other_word nowhere) refl (finish_colon decls frames nowhere)
+finish_rule ToName decls frames = after_terminal (Word other_word nowhere) refl (finish_colon decls frames nowhere)
 finish_rule (ToColon named) decls frames = finish_colon decls frames named
 finish_rule (ToPhase named) decls frames = finish_phase decls frames named
 finish_rule (ToNumber named phase) decls frames = finish_number decls frames named phase
@@ -273,28 +273,28 @@ finish_star (Declared goal_family named ∷ frames) f decls bindings word = reco
 finish_star _ f decls bindings word = absurd f
 
 finish_head : (frames : List Frame) → TermOpen frames → (decls : List DeclTree) (binders : List Span) → Completed decls frames (Arguments (of_term binders) [])
-finish_head frames f decls binders = after_sign (Word other_word nowhere) refl (finish_term frames f decls binders (leaf nowhere) [])
+finish_head frames f decls binders = after_terminal (Word other_word nowhere) refl (finish_term frames f decls binders (leaf nowhere) [])
 
 finish_bracket : (frames : List Frame) → TermOpen frames → (decls : List DeclTree) (binders : List Span) (bracket : Span) → Completed decls frames (AbsClose binders bracket)
-finish_bracket frames f decls binders bracket = after_sign (RBracket nowhere) refl (finish_head frames f decls (binders ++ joined bracket nowhere ∷ []))
+finish_bracket frames f decls binders bracket = after_terminal (RBracket nowhere) refl (finish_head frames f decls (binders ++ joined_arguments bracket nowhere ∷ []))
 
 -- Whatever is being read can be completed.
 pub completion : (top : Top) (frames : List Frame) → Fits top frames → (decls : List DeclTree) → Completed decls frames top
 completion Between frames f decls = record { more = []; final = decls; ends = (refl, refl) }
-completion (GoalName goal) frames f decls = after_sign (Word other_word nowhere) refl (finish_goal goal nowhere decls frames)
+completion (GoalName goal) frames f decls = after_terminal (Word other_word nowhere) refl (finish_goal goal nowhere decls frames)
 completion (GoalColon goal named) frames f decls = finish_goal goal named decls frames
-completion DataName frames f decls = after_sign (Word other_word nowhere) refl (finish_equals decls frames nowhere)
+completion DataName frames f decls = after_terminal (Word other_word nowhere) refl (finish_equals decls frames nowhere)
 completion (DataEquals named) frames f decls = finish_equals decls frames named
 completion (DataNames named names) frames f decls = finish_names decls frames named names
 completion (InRule part) frames f decls = finish_rule part decls frames
 completion (TypeStart bindings) frames f decls = finish_start frames f decls bindings
 completion (PiName bindings brace) frames f decls =
-    after_sign (Word other_word nowhere) refl (after_sign (Colon nowhere) refl (finish_start (Brace bindings (up_to brace nowhere) ∷ frames) f decls []))
-completion (PiColon bindings brace) frames f decls = after_sign (Colon nowhere) refl (finish_start (Brace bindings (up_to brace nowhere) ∷ frames) f decls [])
-completion (GroupEnd bindings inner) frames f decls = after_sign (Arrow nowhere) refl (finish_start frames f decls (bindings ++ arrow_of inner ∷ []))
+    after_terminal (Word other_word nowhere) refl (after_terminal (Colon nowhere) refl (finish_start (Brace bindings (up_to brace nowhere) ∷ frames) f decls []))
+completion (PiColon bindings brace) frames f decls = after_terminal (Colon nowhere) refl (finish_start (Brace bindings (up_to brace nowhere) ∷ frames) f decls [])
+completion (GroupEnd bindings inner) frames f decls = after_terminal (Arrow nowhere) refl (finish_start frames f decls (bindings ++ arrow_of inner ∷ []))
 completion (StarEnd bindings word) frames f decls = finish_star frames f decls bindings word
 completion (Arguments (of_family bindings span) items) frames f decls = finish_family frames f decls bindings span items
 completion (Arguments (of_term binders) []) frames f decls = finish_head frames f decls binders
 completion (Arguments (of_term binders) (tree ∷ items)) frames f decls = finish_term frames f decls binders tree items
-completion (AbsName binders bracket) frames f decls = after_sign (Word other_word nowhere) refl (finish_bracket frames f decls binders bracket)
+completion (AbsName binders bracket) frames f decls = after_terminal (Word other_word nowhere) refl (finish_bracket frames f decls binders bracket)
 completion (AbsClose binders bracket) frames f decls = finish_bracket frames f decls binders bracket

@@ -1,9 +1,9 @@
--- Each derivation of the grammar is read: the machine goes over its signs and keeps its tree.
+-- Each derivation of the grammar is read: the machine goes over its terminals and keeps its tree.
 use Rattle.std.proofs.Common.{◌≡◌, List, [], ◌∷◌, ◌++◌, Option, Some, refl, ap, sym, ◌∙◌}
 use Rattle.file_trees.specs.declared.span.Span.{Span}
-use Rattle.file_syntax.specs.declared.sign.Keyword.{Keyword}
-use Rattle.file_syntax.specs.declared.sign.Sign.{Sign}
-use Rattle.file_syntax.specs.declared.sign.Sign.TheVariants.{Word, Number, Colon, Dot, Arrow, RParen, LBrace, RBrace, LBracket, RBracket}
+use Rattle.file_syntax.specs.declared.terminal.Keyword.{Keyword}
+use Rattle.file_syntax.specs.declared.terminal.Terminal.{Terminal}
+use Rattle.file_syntax.specs.declared.terminal.Terminal.TheVariants.{Word, Number, Colon, Dot, Arrow, RParen, LBrace, RBrace, LBracket, RBracket}
 use Rattle.file_trees.specs.declared.decl_tree.DeclTree.{DeclTree}
 use Rattle.file_trees.specs.declared.decl_tree.DeclTree.TheVariants.{Family as family_tree, Const as const_tree, Theorem as theorem_tree}
 use Rattle.file_trees.specs.declared.decl_tree.PhaseWord.{PhaseWord}
@@ -18,61 +18,61 @@ use Rattle.file_syntax.specs.declared.state.Top.TheVariants.{Between, DataNames,
 use Rattle.file_syntax.specs.declared.state.Frame.{Frame}
 use Rattle.file_syntax.specs.declared.state.Frame.TheVariants.{Declared, Brace, Group, Argument}
 use Rattle.file_trees.specs.Trees.{Tree, applied, Classifier, family, star, Binding, pi_of, arrow_of, bind}
-use Rattle.file_syntax.specs.Productions.{joined, up_to, IsBound, a_name, a_variable, IsTerm, abstracts, applies, IsArgument, name, variable, term, AreArguments, no_more, one_more, IsType, binds, ends, goes_to, IsSimple, family_of, group, IsKind, is_type, kind_binds, kind_goes_to, IsPhase, norm, safe, unsafe, IsBuilder, apply, constructors, cases, forward, destruct, IsMajor, no_major, major_at, IsSet, no_set, set_in, AreNames, no_name, one_name, IsDecl, a_family, a_const, a_theorem, some_data, a_rule, IsFile, no_decl, one_decl}
-use Rattle.file_syntax.specs.Reading.{at_top, phase_of, builder_of, with_phase, with_builder, went_on, rule_from, abstracted, close_type, past_arrow, move, run, start}
+use Rattle.file_syntax.specs.Productions.{joined_arguments, up_to, IsBound, a_name, a_variable, IsTerm, abstracts, applies, IsArgument, name, variable, term, AreArguments, no_more, one_more, IsType, binds, ends, goes_to, IsSimple, family_of, group, IsKind, is_type, kind_binds, kind_goes_to, IsPhase, norm, safe, unsafe, IsBuilder, apply, constructors, cases, forward, destruct, IsMajorPart, no_major, major_at, IsSet, no_set, set_in, AreNames, no_name, one_name, IsDecl, a_family, a_const, a_theorem, some_data, a_rule, IsFile, no_decl, one_decl}
+use Rattle.file_syntax.specs.Reading.{at_top, phase_of, builder_word, with_phase, with_builder, went_on, rule_from, abstracted, close_type, past_arrow, move, run, start}
 use Rattle.file_syntax.proofs.Abstractions.{abstracted_append, bind_append}
 use Rattle.std.proofs.lemmas.List.{append-nil, append_assoc}
 
 -- a term that is read up to its end: its abstractions, its head and its arguments
-pub record TermEnd (signs rest : List Sign) (tree : Tree) (decls : List DeclTree) (frames : List Frame) (binders : List Span) : Type 0 where
+pub record TermEnd (terminals rest : List Terminal) (tree : Tree) (decls : List DeclTree) (frames : List Frame) (binders : List Span) : Type 0 where
   pub spans : List Span
   pub first : Tree
   pub arguments : List Tree
-  pub ran : run signs (at_top decls frames (Arguments (of_term binders) [])) ≡ run rest (at_top decls frames (Arguments (of_term spans) (first ∷ arguments)))
+  pub ran : run terminals (at_top decls frames (Arguments (of_term binders) [])) ≡ run rest (at_top decls frames (Arguments (of_term spans) (first ∷ arguments)))
   pub tree_is : abstracted spans (applied first arguments) ≡ abstracted binders tree
 
-closed-term : {inside rest : List Sign} {closing : Span} {tree : Tree} {decls : List DeclTree} {frames : List Frame} {owner : Owner} {items : List Tree} →
+closed-term : {inside rest : List Terminal} {closing : Span} {tree : Tree} {decls : List DeclTree} {frames : List Frame} {owner : Owner} {items : List Tree} →
     TermEnd inside (RParen closing ∷ rest) tree decls (Argument owner items ∷ frames) [] →
     run inside (at_top decls (Argument owner items ∷ frames) (Arguments (of_term []) [])) ≡ run rest (at_top decls frames (Arguments owner (items ++ tree ∷ [])))
 closed-term {rest = rest} {decls = decls} {frames = frames} {owner = owner} {items = items} e =
     e.ran ∙ ap (λ t. run rest (at_top decls frames (Arguments owner (items ++ t ∷ [])))) e.tree_is
 
-bracket-run : (bound : Sign) → IsBound bound → (opening closing : Span) (inside : List Sign) (decls : List DeclTree) (frames : List Frame) (binders : List Span) →
+bracket-run : (bound : Terminal) → IsBound bound → (opening closing : Span) (inside : List Terminal) (decls : List DeclTree) (frames : List Frame) (binders : List Span) →
     run (LBracket opening ∷ bound ∷ RBracket closing ∷ inside) (at_top decls frames (Arguments (of_term binders) []))
-    ≡ run inside (at_top decls frames (Arguments (of_term (binders ++ joined opening closing ∷ [])) []))
+    ≡ run inside (at_top decls frames (Arguments (of_term (binders ++ joined_arguments opening closing ∷ [])) []))
 bracket-run _ (a_name word span) opening closing inside decls frames binders = refl
 bracket-run _ (a_variable span) opening closing inside decls frames binders = refl
 
 mutual
-  pub argument-run : {signs rest : List Sign} {tree : Tree} → IsArgument signs rest tree →
+  pub argument-run : {terminals rest : List Terminal} {tree : Tree} → IsArgument terminals rest tree →
       (decls : List DeclTree) (frames : List Frame) (owner : Owner) (items : List Tree) →
-      run signs (at_top decls frames (Arguments owner items)) ≡ run rest (at_top decls frames (Arguments owner (items ++ tree ∷ [])))
+      run terminals (at_top decls frames (Arguments owner items)) ≡ run rest (at_top decls frames (Arguments owner (items ++ tree ∷ [])))
   argument-run (name word span rest) decls frames owner items = refl
   argument-run (variable span rest) decls frames owner items = refl
   argument-run (term opening closing inside rest tree d) decls frames owner items =
       closed-term (term-run d decls (Argument owner items ∷ frames) [])
 
-  pub arguments-run : {signs rest : List Sign} {trees : List Tree} → AreArguments signs rest trees →
+  pub arguments-run : {terminals rest : List Terminal} {trees : List Tree} → AreArguments terminals rest trees →
       (decls : List DeclTree) (frames : List Frame) (owner : Owner) (items : List Tree) →
-      run signs (at_top decls frames (Arguments owner items)) ≡ run rest (at_top decls frames (Arguments owner (items ++ trees)))
+      run terminals (at_top decls frames (Arguments owner items)) ≡ run rest (at_top decls frames (Arguments owner (items ++ trees)))
   arguments-run (no_more rest) decls frames owner items =
       ap (λ l. run rest (at_top decls frames (Arguments owner l))) (sym (append-nil items))
-  arguments-run (one_more signs after rest tree arguments d ds) decls frames owner items =
+  arguments-run (one_more terminals after rest tree arguments d ds) decls frames owner items =
       argument-run d decls frames owner items ∙ (arguments-run ds decls frames owner (items ++ tree ∷ [])
       ∙ ap (λ l. run rest (at_top decls frames (Arguments owner l))) (append_assoc items (tree ∷ []) arguments))
 
-  pub term-run : {signs rest : List Sign} {tree : Tree} → IsTerm signs rest tree →
-      (decls : List DeclTree) (frames : List Frame) (binders : List Span) → TermEnd signs rest tree decls frames binders
+  pub term-run : {terminals rest : List Terminal} {tree : Tree} → IsTerm terminals rest tree →
+      (decls : List DeclTree) (frames : List Frame) (binders : List Span) → TermEnd terminals rest tree decls frames binders
   term-run (abstracts opening closing bound inside rest body b d) decls frames binders =
-      let e : TermEnd inside rest body decls frames (binders ++ joined opening closing ∷ []) = term-run d decls frames (binders ++ joined opening closing ∷ []) in
+      let e : TermEnd inside rest body decls frames (binders ++ joined_arguments opening closing ∷ []) = term-run d decls frames (binders ++ joined_arguments opening closing ∷ []) in
       record {
         spans = e.spans;
         first = e.first;
         arguments = e.arguments;
         ran = bracket-run bound b opening closing inside decls frames binders ∙ e.ran;
-        tree_is = e.tree_is ∙ abstracted_append binders (joined opening closing ∷ []) body;
+        tree_is = e.tree_is ∙ abstracted_append binders (joined_arguments opening closing ∷ []) body;
       }
-  term-run (applies signs after rest tree arguments d ds) decls frames binders =
+  term-run (applies terminals after rest tree arguments d ds) decls frames binders =
       record {
         spans = binders;
         first = tree;
@@ -106,47 +106,47 @@ rbrace-move : {top : Top} {bindings : List Binding} {last : Classifier} → Ende
 rbrace-move (ended_family bindings head arguments) span decls frames = refl
 rbrace-move (ended_group bindings inner) span decls frames = refl
 
-pub record SimpleEnd (signs rest : List Sign) (classifier : Classifier) (decls : List DeclTree) (frames : List Frame) (bindings : List Binding) : Type 0 where
+pub record SimpleEnd (terminals rest : List Terminal) (classifier : Classifier) (decls : List DeclTree) (frames : List Frame) (bindings : List Binding) : Type 0 where
   pub top : Top
   pub ended : Ended top bindings classifier
-  pub ran : run signs (at_top decls frames (TypeStart bindings)) ≡ run rest (at_top decls frames top)
+  pub ran : run terminals (at_top decls frames (TypeStart bindings)) ≡ run rest (at_top decls frames top)
 
-pub record TypeEnd (signs rest : List Sign) (classifier : Classifier) (decls : List DeclTree) (frames : List Frame) (bindings : List Binding) : Type 0 where
+pub record TypeEnd (terminals rest : List Terminal) (classifier : Classifier) (decls : List DeclTree) (frames : List Frame) (bindings : List Binding) : Type 0 where
   pub top : Top
   pub whole : List Binding
   pub last : Classifier
   pub ended : Ended top whole last
-  pub ran : run signs (at_top decls frames (TypeStart bindings)) ≡ run rest (at_top decls frames top)
+  pub ran : run terminals (at_top decls frames (TypeStart bindings)) ≡ run rest (at_top decls frames top)
   pub type_is : bind whole last ≡ bind bindings classifier
 
-brace-run : (bound : Sign) → IsBound bound → (opening colon : Span) (inside : List Sign) (decls : List DeclTree) (frames : List Frame) (bindings : List Binding) →
+brace-run : (bound : Terminal) → IsBound bound → (opening colon : Span) (inside : List Terminal) (decls : List DeclTree) (frames : List Frame) (bindings : List Binding) →
     run (LBrace opening ∷ bound ∷ Colon colon ∷ inside) (at_top decls frames (TypeStart bindings))
     ≡ run inside (at_top decls (Brace bindings (up_to opening colon) ∷ frames) (TypeStart []))
 brace-run _ (a_name word span) opening colon inside decls frames bindings = refl
 brace-run _ (a_variable span) opening colon inside decls frames bindings = refl
 
-closed-brace : {inside after : List Sign} {closing : Span} {domain : Classifier} {decls : List DeclTree} {frames : List Frame} {bindings : List Binding} {span : Span} →
+closed-brace : {inside after : List Terminal} {closing : Span} {domain : Classifier} {decls : List DeclTree} {frames : List Frame} {bindings : List Binding} {span : Span} →
     TypeEnd inside (RBrace closing ∷ after) domain decls (Brace bindings span ∷ frames) [] →
     run inside (at_top decls (Brace bindings span ∷ frames) (TypeStart [])) ≡ run after (at_top decls frames (TypeStart (bindings ++ pi_of span domain ∷ [])))
 closed-brace {after = after} {closing = closing} {decls = decls} {frames = frames} {bindings = bindings} {span = span} e =
     e.ran ∙ (ap (run after) (rbrace-move e.ended closing decls (Brace bindings span ∷ frames))
     ∙ ap (λ c. run after (at_top decls frames (TypeStart (bindings ++ pi_of span c ∷ [])))) e.type_is)
 
-closed-group : {inside rest : List Sign} {closing : Span} {classifier : Classifier} {decls : List DeclTree} {frames : List Frame} {bindings : List Binding} →
+closed-group : {inside rest : List Terminal} {closing : Span} {classifier : Classifier} {decls : List DeclTree} {frames : List Frame} {bindings : List Binding} →
     TypeEnd inside (RParen closing ∷ rest) classifier decls (Group bindings ∷ frames) [] →
     run inside (at_top decls (Group bindings ∷ frames) (TypeStart [])) ≡ run rest (at_top decls frames (GroupEnd bindings classifier))
 closed-group {rest = rest} {closing = closing} {decls = decls} {frames = frames} {bindings = bindings} e =
     e.ran ∙ (ap (run rest) (rparen-move e.ended closing decls (Group bindings ∷ frames))
     ∙ ap (λ c. run rest (at_top decls frames (GroupEnd bindings c))) e.type_is)
 
-passed-arrow : {signs after : List Sign} {span : Span} {left : Classifier} {decls : List DeclTree} {frames : List Frame} {bindings : List Binding} →
-    SimpleEnd signs (Arrow span ∷ after) left decls frames bindings →
-    run signs (at_top decls frames (TypeStart bindings)) ≡ run after (at_top decls frames (TypeStart (bindings ++ arrow_of left ∷ [])))
+passed-arrow : {terminals after : List Terminal} {span : Span} {left : Classifier} {decls : List DeclTree} {frames : List Frame} {bindings : List Binding} →
+    SimpleEnd terminals (Arrow span ∷ after) left decls frames bindings →
+    run terminals (at_top decls frames (TypeStart bindings)) ≡ run after (at_top decls frames (TypeStart (bindings ++ arrow_of left ∷ [])))
 passed-arrow {after = after} {span = span} {decls = decls} {frames = frames} e = e.ran ∙ ap (run after) (arrow-move e.ended span decls frames)
 
 mutual
-  pub type-run : {signs rest : List Sign} {classifier : Classifier} → IsType signs rest classifier →
-      (decls : List DeclTree) (frames : List Frame) (bindings : List Binding) → TypeEnd signs rest classifier decls frames bindings
+  pub type-run : {terminals rest : List Terminal} {classifier : Classifier} → IsType terminals rest classifier →
+      (decls : List DeclTree) (frames : List Frame) (bindings : List Binding) → TypeEnd terminals rest classifier decls frames bindings
   type-run (binds opening colon closing bound inside after rest domain body b d k) decls frames bindings =
       let e : TypeEnd after rest body decls frames (bindings ++ pi_of (up_to opening colon) domain ∷ []) =
       type-run k decls frames (bindings ++ pi_of (up_to opening colon) domain ∷ []) in
@@ -159,10 +159,10 @@ mutual
             ∙ (closed-brace (type-run d decls (Brace bindings (up_to opening colon) ∷ frames) []) ∙ e.ran);
         type_is = e.type_is ∙ bind_append bindings (pi_of (up_to opening colon) domain ∷ []) body;
       }
-  type-run (ends signs rest last d) decls frames bindings =
-      let e : SimpleEnd signs rest last decls frames bindings = simple-run d decls frames bindings in
+  type-run (ends terminals rest last d) decls frames bindings =
+      let e : SimpleEnd terminals rest last decls frames bindings = simple-run d decls frames bindings in
       record { top = e.top; whole = bindings; last = last; ended = e.ended; ran = e.ran; type_is = refl }
-  type-run (goes_to signs after rest span left right d k) decls frames bindings =
+  type-run (goes_to terminals after rest span left right d k) decls frames bindings =
       let e : TypeEnd after rest right decls frames (bindings ++ arrow_of left ∷ []) = type-run k decls frames (bindings ++ arrow_of left ∷ []) in
       record {
         top = e.top;
@@ -173,9 +173,9 @@ mutual
         type_is = e.type_is ∙ bind_append bindings (arrow_of left ∷ []) right;
       }
 
-  pub simple-run : {signs rest : List Sign} {classifier : Classifier} → IsSimple signs rest classifier →
-      (decls : List DeclTree) (frames : List Frame) (bindings : List Binding) → SimpleEnd signs rest classifier decls frames bindings
-  simple-run (family_of word span signs rest arguments ds) decls frames bindings =
+  pub simple-run : {terminals rest : List Terminal} {classifier : Classifier} → IsSimple terminals rest classifier →
+      (decls : List DeclTree) (frames : List Frame) (bindings : List Binding) → SimpleEnd terminals rest classifier decls frames bindings
+  simple-run (family_of word span terminals rest arguments ds) decls frames bindings =
       record {
         top = Arguments (of_family bindings span) arguments;
         ended = ended_family bindings span arguments;
@@ -188,15 +188,15 @@ mutual
         ran = closed-group (type-run d decls (Group bindings ∷ frames) []);
       }
 
-pub record KindEnd (signs rest : List Sign) (classifier : Classifier) (decls : List DeclTree) (frames : List Frame) (bindings : List Binding) : Type 0 where
+pub record KindEnd (terminals rest : List Terminal) (classifier : Classifier) (decls : List DeclTree) (frames : List Frame) (bindings : List Binding) : Type 0 where
   pub whole : List Binding
   pub word : Span
-  pub ran : run signs (at_top decls frames (TypeStart bindings)) ≡ run rest (at_top decls frames (StarEnd whole word))
+  pub ran : run terminals (at_top decls frames (TypeStart bindings)) ≡ run rest (at_top decls frames (StarEnd whole word))
   pub kind_is : bind whole (star word) ≡ bind bindings classifier
 
-pub kind-run : {signs rest : List Sign} {classifier : Classifier} → IsKind signs rest classifier →
+pub kind-run : {terminals rest : List Terminal} {classifier : Classifier} → IsKind terminals rest classifier →
     (decls : List DeclTree) (family_name : Span) (frames : List Frame) (bindings : List Binding) →
-    KindEnd signs rest classifier decls (Declared goal_family family_name ∷ frames) bindings
+    KindEnd terminals rest classifier decls (Declared goal_family family_name ∷ frames) bindings
 kind-run (is_type span rest) decls family_name frames bindings = record { whole = bindings; word = span; ran = refl; kind_is = refl }
 kind-run (kind_binds opening colon closing bound inside after rest domain body b d k) decls family_name frames bindings =
     let e : KindEnd after rest body decls (Declared goal_family family_name ∷ frames) (bindings ++ pi_of (up_to opening colon) domain ∷ []) =
@@ -208,7 +208,7 @@ kind-run (kind_binds opening colon closing bound inside after rest domain body b
           ∙ (closed-brace (type-run d decls (Brace bindings (up_to opening colon) ∷ Declared goal_family family_name ∷ frames) []) ∙ e.ran);
       kind_is = e.kind_is ∙ bind_append bindings (pi_of (up_to opening colon) domain ∷ []) body;
     }
-kind-run (kind_goes_to signs after rest span left right d k) decls family_name frames bindings =
+kind-run (kind_goes_to terminals after rest span left right d k) decls family_name frames bindings =
     let e : KindEnd after rest right decls (Declared goal_family family_name ∷ frames) (bindings ++ arrow_of left ∷ []) =
     kind-run k decls family_name frames (bindings ++ arrow_of left ∷ []) in
     record {
@@ -218,12 +218,12 @@ kind-run (kind_goes_to signs after rest span left right d k) decls family_name f
       kind_is = e.kind_is ∙ bind_append bindings (arrow_of left ∷ []) right;
     }
 
-pub names-run : {signs rest : List Sign} {names : List Span} → AreNames signs rest names →
+pub names-run : {terminals rest : List Terminal} {names : List Span} → AreNames terminals rest names →
     (decls : List DeclTree) (frames : List Frame) (subject : Span) (items : List Span) →
-    run signs (at_top decls frames (DataNames subject items)) ≡ run rest (at_top decls frames (DataNames subject (items ++ names)))
+    run terminals (at_top decls frames (DataNames subject items)) ≡ run rest (at_top decls frames (DataNames subject (items ++ names)))
 names-run (no_name rest) decls frames subject items =
     ap (λ l. run rest (at_top decls frames (DataNames subject l))) (sym (append-nil items))
-names-run (one_name word span signs rest names ds) decls frames subject items =
+names-run (one_name word span terminals rest names ds) decls frames subject items =
     names-run ds decls frames subject (items ++ span ∷ [])
     ∙ ap (λ l. run rest (at_top decls frames (DataNames subject l))) (append_assoc items (span ∷ []) names)
 
@@ -232,50 +232,50 @@ phase-is norm = refl
 phase-is safe = refl
 phase-is unsafe = refl
 
-builder-is : {word : Keyword} {builder : BuildWord} → IsBuilder word builder → builder_of word ≡ Some builder
+builder-is : {word : Keyword} {builder : BuildWord} → IsBuilder word builder → builder_word word ≡ Some builder
 builder-is apply = refl
 builder-is constructors = refl
 builder-is cases = refl
 builder-is forward = refl
 builder-is destruct = refl
 
-rule_end-run : {signs after rest : List Sign} {dot : Span} {major set : Option Span} → IsMajor signs after major → IsSet after (Dot dot ∷ rest) set →
+rule_end-run : {terminals after rest : List Terminal} {dot : Span} {major set : Option Span} → IsMajorPart terminals after major → IsSet after (Dot dot ∷ rest) set →
     (decls : List DeclTree) (frames : List Frame) (rule : RuleHead) →
-    run signs (at_top decls frames (InRule (PastSubject rule))) ≡ run rest (at_top (decls ++ rule_from rule major set ∷ []) frames Between)
+    run terminals (at_top decls frames (InRule (PastSubject rule))) ≡ run rest (at_top (decls ++ rule_from rule major set ∷ []) frames Between)
 rule_end-run (no_major _) (no_set _) decls frames rule = refl
 rule_end-run (no_major _) (set_in in_span word span rest) decls frames rule = refl
 rule_end-run (major_at at_span span _) (no_set _) decls frames rule = refl
 rule_end-run (major_at at_span span _) (set_in in_span word span' rest) decls frames rule = refl
 
-pub decl-run : {signs rest : List Sign} {declaration : DeclTree} → IsDecl signs rest declaration →
+pub decl-run : {terminals rest : List Terminal} {declaration : DeclTree} → IsDecl terminals rest declaration →
     (decls : List DeclTree) (frames : List Frame) →
-    run signs (at_top decls frames Between) ≡ run rest (at_top (decls ++ declaration ∷ []) frames Between)
-decl-run (a_family first named colon dot word signs rest kind k) decls frames =
-    let e : KindEnd signs (Dot dot ∷ rest) kind decls (Declared goal_family named ∷ frames) [] = kind-run k decls named frames [] in
+    run terminals (at_top decls frames Between) ≡ run rest (at_top (decls ++ declaration ∷ []) frames Between)
+decl-run (a_family first named colon dot word terminals rest kind k) decls frames =
+    let e : KindEnd terminals (Dot dot ∷ rest) kind decls (Declared goal_family named ∷ frames) [] = kind-run k decls named frames [] in
     e.ran ∙ ap (λ c. run rest (at_top (decls ++ family_tree named c ∷ []) frames Between)) e.kind_is
-decl-run (a_const first named colon dot word signs rest classifier k) decls frames =
-    let e : TypeEnd signs (Dot dot ∷ rest) classifier decls (Declared goal_const named ∷ frames) [] = type-run k decls (Declared goal_const named ∷ frames) [] in
+decl-run (a_const first named colon dot word terminals rest classifier k) decls frames =
+    let e : TypeEnd terminals (Dot dot ∷ rest) classifier decls (Declared goal_const named ∷ frames) [] = type-run k decls (Declared goal_const named ∷ frames) [] in
     e.ran ∙ (ap (run rest) (dot-move e.ended dot decls (Declared goal_const named ∷ frames))
     ∙ ap (λ c. run rest (at_top (decls ++ const_tree named c ∷ []) frames Between)) e.type_is)
-decl-run (a_theorem first named colon dot word signs rest classifier k) decls frames =
-    let e : TypeEnd signs (Dot dot ∷ rest) classifier decls (Declared goal_theorem named ∷ frames) [] = type-run k decls (Declared goal_theorem named ∷ frames) [] in
+decl-run (a_theorem first named colon dot word terminals rest classifier k) decls frames =
+    let e : TypeEnd terminals (Dot dot ∷ rest) classifier decls (Declared goal_theorem named ∷ frames) [] = type-run k decls (Declared goal_theorem named ∷ frames) [] in
     e.ran ∙ (ap (run rest) (dot-move e.ended dot decls (Declared goal_theorem named ∷ frames))
     ∙ ap (λ c. run rest (at_top (decls ++ theorem_tree named c ∷ []) frames Between)) e.type_is)
-decl-run (some_data first named equals dot word signs rest names ds) decls frames = names-run ds decls frames named []
-decl-run (a_rule first named colon phase_span number builder_span subject dot word phase_word builder_word other signs after rest phase builder major set p b m s) decls frames =
-    ap (λ o. run (Number number ∷ Word builder_word builder_span ∷ Word other subject ∷ signs) (went_on decls frames (with_phase named o))) (phase-is p)
-    ∙ (ap (λ o. run (Word other subject ∷ signs) (went_on decls frames (with_builder named phase number o))) (builder-is b)
+decl-run (some_data first named equals dot word terminals rest names ds) decls frames = names-run ds decls frames named []
+decl-run (a_rule first named colon phase_span number builder_span subject dot word phase_word builder_word other terminals after rest phase builder major set p b m s) decls frames =
+    ap (λ o. run (Number number ∷ Word builder_word builder_span ∷ Word other subject ∷ terminals) (went_on decls frames (with_phase named o))) (phase-is p)
+    ∙ (ap (λ o. run (Word other subject ∷ terminals) (went_on decls frames (with_builder named phase number o))) (builder-is b)
     ∙ rule_end-run m s decls frames (record { name = named; phase = phase; number = number; builder = builder; subject = subject }))
 
-pub file-run : {signs : List Sign} {declarations : List DeclTree} → IsFile signs declarations →
+pub file-run : {terminals : List Terminal} {declarations : List DeclTree} → IsFile terminals declarations →
     (decls : List DeclTree) (frames : List Frame) →
-    run signs (at_top decls frames Between) ≡ at_top (decls ++ declarations) frames Between
+    run terminals (at_top decls frames Between) ≡ at_top (decls ++ declarations) frames Between
 file-run no_decl decls frames = ap (λ l. at_top l frames Between) (sym (append-nil decls))
-file-run (one_decl signs rest declaration declarations d ds) decls frames =
+file-run (one_decl terminals rest declaration declarations d ds) decls frames =
     decl-run d decls frames ∙ (file-run ds (decls ++ declaration ∷ []) frames
     ∙ ap (λ l. at_top l frames Between) (append_assoc decls (declaration ∷ []) declarations))
 
 -- A file is read to its end, with its declarations.
-pub run-file : {signs : List Sign} {declarations : List DeclTree} → IsFile signs declarations →
-    run signs (Some start) ≡ at_top declarations [] Between
+pub run-file : {terminals : List Terminal} {declarations : List DeclTree} → IsFile terminals declarations →
+    run terminals (Some start) ≡ at_top declarations [] Between
 run-file d = file-run d [] []

@@ -2,8 +2,8 @@
 use Rattle.std.proofs.Common.{◌≡◌, ℕ, zero, suc, ◌<◌, List, [], ◌∷◌, ◌++◌, length, Option, Some, None, sym, subst, arith}
 use Rattle.std.proofs.lemmas.List.{append-nil, append_assoc}
 use Rattle.file_trees.specs.declared.span.Span.{Span}
-use Rattle.file_syntax.specs.declared.sign.Sign.{Sign}
-use Rattle.file_syntax.specs.declared.sign.Sign.TheVariants.{Word, Var, LParen, RParen, LBracket, RBracket}
+use Rattle.file_syntax.specs.declared.terminal.Terminal.{Terminal}
+use Rattle.file_syntax.specs.declared.terminal.Terminal.TheVariants.{Word, Var, LParen, RParen, LBracket, RBracket}
 use Rattle.file_trees.specs.declared.decl_tree.DeclTree.{DeclTree}
 use Rattle.file_syntax.specs.declared.state.Owner.{Owner}
 use Rattle.file_syntax.specs.declared.state.Owner.TheVariants.{Term as of_term}
@@ -12,37 +12,37 @@ use Rattle.file_syntax.specs.declared.state.Frame.{Frame}
 use Rattle.file_syntax.specs.declared.state.Frame.TheVariants.{Argument}
 use Rattle.file_syntax.specs.declared.state.State.{State}
 use Rattle.file_trees.specs.Trees.{Tree, abstraction, applied}
-use Rattle.file_syntax.specs.Productions.{joined, IsBound, a_name, a_variable, IsTerm, abstracts, applies, IsArgument, name, variable, term, AreArguments, no_more, one_more}
+use Rattle.file_syntax.specs.Productions.{joined_arguments, IsBound, a_name, a_variable, IsTerm, abstracts, applies, IsArgument, name, variable, term, AreArguments, no_more, one_more}
 use Rattle.file_syntax.specs.Reading.{at_top, abstracted, no_argument, stepped}
 use Rattle.file_syntax.proofs.Abstractions.{abstracted_append}
 
--- The run over the signs ends between two declarations, after these.
-abbrev pub Ends : List Sign → Option State → List DeclTree → Type 0
+-- The run over the terminals ends between two declarations, after these.
+abbrev pub Ends : List Terminal → Option State → List DeclTree → Type 0
 Ends [] None final = ⊥
 Ends [] (Some state) final = (state.top ≡ Between) × (state.decls ≡ final)
-Ends (sign ∷ signs) state final = Ends signs (stepped state sign) final
+Ends (terminal ∷ terminals) state final = Ends terminals (stepped state terminal) final
 
-pub ends_none : (signs : List Sign) (final : List DeclTree) → Ends signs None final → ⊥
+pub ends_none : (terminals : List Terminal) (final : List DeclTree) → Ends terminals None final → ⊥
 ends_none [] final h = h
-ends_none (sign ∷ signs) final h = ends_none signs final h
+ends_none (terminal ∷ terminals) final h = ends_none terminals final h
 
-pub record ArgumentsRead (signs : List Sign) (decls : List DeclTree) (frames : List Frame) (owner : Owner) (items : List Tree) (final : List DeclTree) : Type 0 where
+pub record ArgumentsRead (terminals : List Terminal) (decls : List DeclTree) (frames : List Frame) (owner : Owner) (items : List Tree) (final : List DeclTree) : Type 0 where
   pub trees : List Tree
-  pub next : Sign
-  pub rest : List Sign
-  pub are : AreArguments signs (next ∷ rest) trees
-  pub shorter : length rest < length signs
+  pub next : Terminal
+  pub rest : List Terminal
+  pub are : AreArguments terminals (next ∷ rest) trees
+  pub shorter : length rest < length terminals
   pub go_on : Ends rest (no_argument decls frames owner (items ++ trees) next) final
 
-pub record TermRead (signs : List Sign) (decls : List DeclTree) (frames : List Frame) (binders : List Span) (owner : Owner) (items : List Tree) (final : List DeclTree) : Type 0 where
+pub record TermRead (terminals : List Terminal) (decls : List DeclTree) (frames : List Frame) (binders : List Span) (owner : Owner) (items : List Tree) (final : List DeclTree) : Type 0 where
   pub tree : Tree
   pub closing : Span
-  pub rest : List Sign
-  pub is : IsTerm signs (RParen closing ∷ rest) tree
-  pub shorter : length rest < length signs
+  pub rest : List Terminal
+  pub is : IsTerm terminals (RParen closing ∷ rest) tree
+  pub shorter : length rest < length terminals
   pub go_on : Ends rest (at_top decls frames (Arguments owner (items ++ abstracted binders tree ∷ []))) final
 
-stop : (next : Sign) (rest : List Sign) {decls : List DeclTree} {frames : List Frame} {owner : Owner} {items : List Tree} {final : List DeclTree} →
+stop : (next : Terminal) (rest : List Terminal) {decls : List DeclTree} {frames : List Frame} {owner : Owner} {items : List Tree} {final : List DeclTree} →
     Ends rest (no_argument decls frames owner items next) final → ArgumentsRead (next ∷ rest) decls frames owner items final
 stop next rest {decls = decls} {frames = frames} {owner = owner} {items = items} {final = final} h =
     record {
@@ -55,108 +55,108 @@ stop next rest {decls = decls} {frames = frames} {owner = owner} {items = items}
     }
 
 -- one argument before others
-before : {signs after : List Sign} {tree : Tree} {decls : List DeclTree} {frames : List Frame} {owner : Owner} {items : List Tree} {final : List DeclTree} →
-    IsArgument signs after tree → length after < length signs → ArgumentsRead after decls frames owner (items ++ tree ∷ []) final →
-    ArgumentsRead signs decls frames owner items final
-before {signs = signs} {after = after} {tree = tree} {decls = decls} {frames = frames} {owner = owner} {items = items} {final = final} a h r =
+before : {terminals after : List Terminal} {tree : Tree} {decls : List DeclTree} {frames : List Frame} {owner : Owner} {items : List Tree} {final : List DeclTree} →
+    IsArgument terminals after tree → length after < length terminals → ArgumentsRead after decls frames owner (items ++ tree ∷ []) final →
+    ArgumentsRead terminals decls frames owner items final
+before {terminals = terminals} {after = after} {tree = tree} {decls = decls} {frames = frames} {owner = owner} {items = items} {final = final} a h r =
     record {
       trees = tree ∷ r.trees;
       next = r.next;
       rest = r.rest;
-      are = one_more signs after (r.next ∷ r.rest) tree r.trees a r.are;
+      are = one_more terminals after (r.next ∷ r.rest) tree r.trees a r.are;
       shorter = omega (arith, r.shorter, h);
       go_on = subst (λ l. Ends r.rest (no_argument decls frames owner l r.next) final) (append_assoc items (tree ∷ []) r.trees) r.go_on;
     }
 
 -- a term that ends after its arguments
-close_arguments : (binders : List Span) {signs after : List Sign} {tree : Tree} {decls : List DeclTree} {frames : List Frame} {owner : Owner} {items : List Tree} {final : List DeclTree} →
-    IsArgument signs after tree → length after < length signs →
+close_arguments : (binders : List Span) {terminals after : List Terminal} {tree : Tree} {decls : List DeclTree} {frames : List Frame} {owner : Owner} {items : List Tree} {final : List DeclTree} →
+    IsArgument terminals after tree → length after < length terminals →
     ArgumentsRead after decls (Argument owner items ∷ frames) (of_term binders) (tree ∷ []) final →
-    TermRead signs decls frames binders owner items final
-close_arguments binders {signs = signs} {after = after} {tree = tree} {decls = decls} {frames = frames} {owner = owner} {items = items} {final = final} a h r =
-    at_sign r.next r.rest r.trees r.are (omega (arith, r.shorter, h)) r.go_on
+    TermRead terminals decls frames binders owner items final
+close_arguments binders {terminals = terminals} {after = after} {tree = tree} {decls = decls} {frames = frames} {owner = owner} {items = items} {final = final} a h r =
+    at_terminal r.next r.rest r.trees r.are (omega (arith, r.shorter, h)) r.go_on
   where
-    at_sign : (next : Sign) (rest : List Sign) (trees : List Tree) → AreArguments after (next ∷ rest) trees → length rest < length signs →
+    at_terminal : (next : Terminal) (rest : List Terminal) (trees : List Tree) → AreArguments after (next ∷ rest) trees → length rest < length terminals →
         Ends rest (no_argument decls (Argument owner items ∷ frames) (of_term binders) (tree ∷ trees) next) final →
-        TermRead signs decls frames binders owner items final
-    at_sign (RParen closing) rest trees are short go =
+        TermRead terminals decls frames binders owner items final
+    at_terminal (RParen closing) rest trees are short go =
         record {
           tree = applied tree trees;
           closing = closing;
           rest = rest;
-          is = applies signs after (RParen closing ∷ rest) tree trees a are;
+          is = applies terminals after (RParen closing ∷ rest) tree trees a are;
           shorter = short;
           go_on = go;
         }
-    at_sign _ rest trees are short go = absurd (ends_none rest _ go)
+    at_terminal _ rest trees are short go = absurd (ends_none rest _ go)
 
 -- a bound name, and then a closing bracket
-data Bracketed : List Sign → Span → List Sign → Type 0 where
-  bracketed : (bound : Sign) (closing : Span) (rest : List Sign) → IsBound bound → Bracketed (bound ∷ RBracket closing ∷ rest) closing rest
+data Bracketed : List Terminal → Span → List Terminal → Type 0 where
+  bracketed : (bound : Terminal) (closing : Span) (rest : List Terminal) → IsBound bound → Bracketed (bound ∷ RBracket closing ∷ rest) closing rest
 
-record BracketRead (signs : List Sign) (decls : List DeclTree) (frames : List Frame) (binders : List Span) (opening : Span) (final : List DeclTree) : Type 0 where
+record BracketRead (terminals : List Terminal) (decls : List DeclTree) (frames : List Frame) (binders : List Span) (opening : Span) (final : List DeclTree) : Type 0 where
   closing : Span
-  rest : List Sign
-  is : Bracketed signs closing rest
-  go_on : Ends rest (at_top decls frames (Arguments (of_term (binders ++ joined opening closing ∷ [])) [])) final
+  rest : List Terminal
+  is : Bracketed terminals closing rest
+  go_on : Ends rest (at_top decls frames (Arguments (of_term (binders ++ joined_arguments opening closing ∷ [])) [])) final
 
-bracket_closed : (bound : Sign) → IsBound bound → (signs : List Sign) {decls : List DeclTree} {frames : List Frame} {binders : List Span} {opening : Span} {final : List DeclTree} →
-    Ends signs (at_top decls frames (AbsClose binders opening)) final → BracketRead (bound ∷ signs) decls frames binders opening final
+bracket_closed : (bound : Terminal) → IsBound bound → (terminals : List Terminal) {decls : List DeclTree} {frames : List Frame} {binders : List Span} {opening : Span} {final : List DeclTree} →
+    Ends terminals (at_top decls frames (AbsClose binders opening)) final → BracketRead (bound ∷ terminals) decls frames binders opening final
 bracket_closed bound b [] h = cc
 bracket_closed bound b (RBracket closing ∷ rest) h = record { closing = closing; rest = rest; is = bracketed bound closing rest b; go_on = h }
 bracket_closed bound b (_ ∷ rest) h = absurd (ends_none rest _ h)
 
-bracket_read : (signs : List Sign) {decls : List DeclTree} {frames : List Frame} {binders : List Span} {opening : Span} {final : List DeclTree} →
-    Ends signs (at_top decls frames (AbsName binders opening)) final → BracketRead signs decls frames binders opening final
+bracket_read : (terminals : List Terminal) {decls : List DeclTree} {frames : List Frame} {binders : List Span} {opening : Span} {final : List DeclTree} →
+    Ends terminals (at_top decls frames (AbsName binders opening)) final → BracketRead terminals decls frames binders opening final
 bracket_read [] h = cc
-bracket_read (Word word span ∷ signs) h = bracket_closed (Word word span) (a_name word span) signs h
-bracket_read (Var span ∷ signs) h = bracket_closed (Var span) (a_variable span) signs h
-bracket_read (_ ∷ signs) h = absurd (ends_none signs _ h)
+bracket_read (Word word span ∷ terminals) h = bracket_closed (Word word span) (a_name word span) terminals h
+bracket_read (Var span ∷ terminals) h = bracket_closed (Var span) (a_variable span) terminals h
+bracket_read (_ ∷ terminals) h = absurd (ends_none terminals _ h)
 
-abstracted_read : {signs rest : List Sign} {opening closing : Span} {binders : List Span} {decls : List DeclTree} {frames : List Frame} {owner : Owner} {items : List Tree} {final : List DeclTree} →
-    Bracketed signs closing rest → TermRead rest decls frames (binders ++ joined opening closing ∷ []) owner items final →
-    TermRead (LBracket opening ∷ signs) decls frames binders owner items final
+abstracted_read : {terminals rest : List Terminal} {opening closing : Span} {binders : List Span} {decls : List DeclTree} {frames : List Frame} {owner : Owner} {items : List Tree} {final : List DeclTree} →
+    Bracketed terminals closing rest → TermRead rest decls frames (binders ++ joined_arguments opening closing ∷ []) owner items final →
+    TermRead (LBracket opening ∷ terminals) decls frames binders owner items final
 abstracted_read {opening = opening} {binders = binders} {decls = decls} {frames = frames} {owner = owner} {items = items} {final = final} (bracketed bound closing rest b) r =
     record {
-      tree = abstraction (joined opening closing) r.tree;
+      tree = abstraction (joined_arguments opening closing) r.tree;
       closing = r.closing;
       rest = r.rest;
       is = abstracts opening closing bound rest (RParen r.closing ∷ r.rest) r.tree b r.is;
       shorter = omega (arith, r.shorter);
-      go_on = subst (λ t. Ends r.rest (at_top decls frames (Arguments owner (items ++ t ∷ []))) final) (abstracted_append binders (joined opening closing ∷ []) r.tree) r.go_on;
+      go_on = subst (λ t. Ends r.rest (at_top decls frames (Arguments owner (items ++ t ∷ []))) final) (abstracted_append binders (joined_arguments opening closing ∷ []) r.tree) r.go_on;
     }
 
-bracketed_shorter : {signs rest : List Sign} {closing : Span} → Bracketed signs closing rest → length rest < length signs
+bracketed_shorter : {terminals rest : List Terminal} {closing : Span} → Bracketed terminals closing rest → length rest < length terminals
 bracketed_shorter (bracketed bound closing rest b) = omega arith
 
 mutual
-  pub arguments_read : (n : ℕ) (signs : List Sign) {decls : List DeclTree} {frames : List Frame} {owner : Owner} {items : List Tree} {final : List DeclTree} →
-      length signs < n → Ends signs (at_top decls frames (Arguments owner items)) final → ArgumentsRead signs decls frames owner items final
-  arguments_read zero signs h e = absurd (omega arith)
+  pub arguments_read : (n : ℕ) (terminals : List Terminal) {decls : List DeclTree} {frames : List Frame} {owner : Owner} {items : List Tree} {final : List DeclTree} →
+      length terminals < n → Ends terminals (at_top decls frames (Arguments owner items)) final → ArgumentsRead terminals decls frames owner items final
+  arguments_read zero terminals h e = absurd (omega arith)
   arguments_read (suc n) [] h e = cc
-  arguments_read (suc n) (Word word span ∷ signs) h e =
-      before (name word span signs) (omega arith) (arguments_read n signs (omega arith) e)
-  arguments_read (suc n) (Var span ∷ signs) h e =
-      before (variable span signs) (omega arith) (arguments_read n signs (omega arith) e)
-  arguments_read (suc n) (LParen opening ∷ signs) {decls = decls} {frames = frames} {owner = owner} {items = items} {final = final} h e =
-      let r : TermRead signs decls frames [] owner items final = term_read n signs (omega arith) e in
-      before (term opening r.closing signs r.rest r.tree r.is) (omega (arith, r.shorter)) (arguments_read n r.rest (omega (arith, r.shorter)) r.go_on)
-  arguments_read (suc n) (next ∷ signs) h e = stop next signs e
+  arguments_read (suc n) (Word word span ∷ terminals) h e =
+      before (name word span terminals) (omega arith) (arguments_read n terminals (omega arith) e)
+  arguments_read (suc n) (Var span ∷ terminals) h e =
+      before (variable span terminals) (omega arith) (arguments_read n terminals (omega arith) e)
+  arguments_read (suc n) (LParen opening ∷ terminals) {decls = decls} {frames = frames} {owner = owner} {items = items} {final = final} h e =
+      let r : TermRead terminals decls frames [] owner items final = term_read n terminals (omega arith) e in
+      before (term opening r.closing terminals r.rest r.tree r.is) (omega (arith, r.shorter)) (arguments_read n r.rest (omega (arith, r.shorter)) r.go_on)
+  arguments_read (suc n) (next ∷ terminals) h e = stop next terminals e
 
-  pub term_read : (n : ℕ) (signs : List Sign) {decls : List DeclTree} {frames : List Frame} {binders : List Span} {owner : Owner} {items : List Tree} {final : List DeclTree} →
-      length signs < n → Ends signs (at_top decls (Argument owner items ∷ frames) (Arguments (of_term binders) [])) final →
-      TermRead signs decls frames binders owner items final
-  term_read zero signs h e = absurd (omega arith)
+  pub term_read : (n : ℕ) (terminals : List Terminal) {decls : List DeclTree} {frames : List Frame} {binders : List Span} {owner : Owner} {items : List Tree} {final : List DeclTree} →
+      length terminals < n → Ends terminals (at_top decls (Argument owner items ∷ frames) (Arguments (of_term binders) [])) final →
+      TermRead terminals decls frames binders owner items final
+  term_read zero terminals h e = absurd (omega arith)
   term_read (suc n) [] h e = cc
-  term_read (suc n) (LBracket opening ∷ signs) {decls = decls} {frames = frames} {binders = binders} {owner = owner} {items = items} {final = final} h e =
-      let b : BracketRead signs decls (Argument owner items ∷ frames) binders opening final = bracket_read signs e in
-      let short : length b.rest < length signs = bracketed_shorter b.is in
+  term_read (suc n) (LBracket opening ∷ terminals) {decls = decls} {frames = frames} {binders = binders} {owner = owner} {items = items} {final = final} h e =
+      let b : BracketRead terminals decls (Argument owner items ∷ frames) binders opening final = bracket_read terminals e in
+      let short : length b.rest < length terminals = bracketed_shorter b.is in
       abstracted_read b.is (term_read n b.rest (omega (arith, short)) b.go_on)
-  term_read (suc n) (Word word span ∷ signs) {binders = binders} h e =
-      close_arguments binders (name word span signs) (omega arith) (arguments_read n signs (omega arith) e)
-  term_read (suc n) (Var span ∷ signs) {binders = binders} h e =
-      close_arguments binders (variable span signs) (omega arith) (arguments_read n signs (omega arith) e)
-  term_read (suc n) (LParen opening ∷ signs) {decls = decls} {frames = frames} {binders = binders} {owner = owner} {items = items} {final = final} h e =
-      let r : TermRead signs decls (Argument owner items ∷ frames) [] (of_term binders) [] final = term_read n signs (omega arith) e in
-      close_arguments binders (term opening r.closing signs r.rest r.tree r.is) (omega (arith, r.shorter)) (arguments_read n r.rest (omega (arith, r.shorter)) r.go_on)
-  term_read (suc n) (_ ∷ signs) h e = absurd (ends_none signs _ e)
+  term_read (suc n) (Word word span ∷ terminals) {binders = binders} h e =
+      close_arguments binders (name word span terminals) (omega arith) (arguments_read n terminals (omega arith) e)
+  term_read (suc n) (Var span ∷ terminals) {binders = binders} h e =
+      close_arguments binders (variable span terminals) (omega arith) (arguments_read n terminals (omega arith) e)
+  term_read (suc n) (LParen opening ∷ terminals) {decls = decls} {frames = frames} {binders = binders} {owner = owner} {items = items} {final = final} h e =
+      let r : TermRead terminals decls (Argument owner items ∷ frames) [] (of_term binders) [] final = term_read n terminals (omega arith) e in
+      close_arguments binders (term opening r.closing terminals r.rest r.tree r.is) (omega (arith, r.shorter)) (arguments_read n r.rest (omega (arith, r.shorter)) r.go_on)
+  term_read (suc n) (_ ∷ terminals) h e = absurd (ends_none terminals _ e)

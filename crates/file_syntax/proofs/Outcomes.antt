@@ -4,12 +4,12 @@ use Rattle.std.specs.Prelude.{sum}
 use Rattle.std.proofs.lemmas.List.{append-nil, map-append, take-append-drop}
 use Rattle.std.proofs.Math.Seq.{drop-cons, take-nil, take-length}
 use Rattle.lex_text.specs.declared.token.Token.{Token}
-use Rattle.file_syntax.specs.declared.sign.Sign.{Sign}
+use Rattle.file_syntax.specs.declared.terminal.Terminal.{Terminal}
 use Rattle.file_trees.specs.declared.decl_tree.DeclTree.{DeclTree}
 use Rattle.file_syntax.specs.declared.state.Top.{Top}
 use Rattle.file_syntax.specs.declared.state.Top.TheVariants.{Between}
 use Rattle.file_syntax.specs.declared.state.State.{State}
-use Rattle.file_syntax.specs.Signs.{sign_of, signs_of}
+use Rattle.file_syntax.specs.Terminals.{terminal_of, terminals_of}
 use Rattle.file_syntax.specs.Productions.{IsFile}
 use Rattle.file_syntax.specs.Reading.{at_top, step, stepped, run, start}
 use Rattle.file_syntax.specs.Nesting.{open_after, open_in, IsShallow}
@@ -19,129 +19,129 @@ use Rattle.file_syntax.proofs.Endings.{Ends}
 use Rattle.file_syntax.proofs.FileEndings.{ends_file}
 use Rattle.file_syntax.proofs.Completions.{Fits, FitsSome, run-fits, Completed, completion}
 
-run_append : (signs more : List Sign) (state : Option State) → run (signs ++ more) state ≡ run more (run signs state)
+run_append : (terminals more : List Terminal) (state : Option State) → run (terminals ++ more) state ≡ run more (run terminals state)
 run_append [] more state = refl
-run_append (sign ∷ signs) more state = run_append signs more (stepped state sign)
+run_append (terminal ∷ terminals) more state = run_append terminals more (stepped state terminal)
 
-run_none : (signs : List Sign) → run signs None ≡ None
+run_none : (terminals : List Terminal) → run terminals None ≡ None
 run_none [] = refl
-run_none (sign ∷ signs) = run_none signs
+run_none (terminal ∷ terminals) = run_none terminals
 
-open_append : (signs more : List Sign) (opened : List ℕ) → open_in opened (signs ++ more) ≡ open_in (open_in opened signs) more
+open_append : (terminals more : List Terminal) (opened : List ℕ) → open_in opened (terminals ++ more) ≡ open_in (open_in opened terminals) more
 open_append [] more opened = refl
-open_append (sign ∷ signs) more opened = open_append signs more (open_after sign opened)
+open_append (terminal ∷ terminals) more opened = open_append terminals more (open_after terminal opened)
 
-ends_append : (signs more : List Sign) (state : Option State) (final : List DeclTree) → Ends more (run signs state) final → Ends (signs ++ more) state final
+ends_append : (terminals more : List Terminal) (state : Option State) (final : List DeclTree) → Ends more (run terminals state) final → Ends (terminals ++ more) state final
 ends_append [] more state final h = h
-ends_append (sign ∷ signs) more state final h = ends_append signs more (stepped state sign) final h
+ends_append (terminal ∷ terminals) more state final h = ends_append terminals more (stepped state terminal) final h
 
-ends_run : (signs : List Sign) (state : Option State) (final : List DeclTree) → Ends [] (run signs state) final → Ends signs state final
+ends_run : (terminals : List Terminal) (state : Option State) (final : List DeclTree) → Ends [] (run terminals state) final → Ends terminals state final
 ends_run [] state final h = h
-ends_run (sign ∷ signs) state final h = ends_run signs (stepped state sign) final h
+ends_run (terminal ∷ terminals) state final h = ends_run terminals (stepped state terminal) final h
 
 -- What was read from the start goes on to a file.
-goes_on : (signs : List Sign) (state : State) → run signs (Some start) ≡ Some state → GoesOn signs
-goes_on signs state h =
-    let fits : Fits state.top state.frames = subst FitsSome h (run-fits signs (Some start) tt) in
+goes_on : (terminals : List Terminal) (state : State) → run terminals (Some start) ≡ Some state → GoesOn terminals
+goes_on terminals state h =
+    let fits : Fits state.top state.frames = subst FitsSome h (run-fits terminals (Some start) tt) in
     let c : Completed state.decls state.frames state.top = completion state.top state.frames fits state.decls in
-    let ends : Ends c.more (run signs (Some start)) c.final = subst (λ s. Ends c.more s c.final) (sym h) c.ends in
-    (c.more, c.final, ends_file (signs ++ c.more) c.final (ends_append signs c.more (Some start) c.final ends))
+    let ends : Ends c.more (run terminals (Some start)) c.final = subst (λ s. Ends c.more s c.final) (sym h) c.ends in
+    (c.more, c.final, ends_file (terminals ++ c.more) c.final (ends_append terminals c.more (Some start) c.final ends))
 
 abbrev is_some : Option State → Type 0
 is_some None = ⊥
 is_some (Some state) = Unit {0}
 
--- No file has the sign that is refused.
-refused_sign : (signs : List Sign) (state : State) (sign : Sign) → run signs (Some start) ≡ Some state → step state sign ≡ None → GoesOn (signs ++ sign ∷ []) → ⊥
-refused_sign signs state sign h refused g =
-    let e : run ((signs ++ sign ∷ []) ++ g.0) (Some start) ≡ None =
-    run_append (signs ++ sign ∷ []) g.0 (Some start)
-    ∙ (ap (run g.0) (run_append signs (sign ∷ []) (Some start) ∙ (ap (λ s. stepped s sign) h ∙ refused)) ∙ run_none g.0) in
-    let f : run ((signs ++ sign ∷ []) ++ g.0) (Some start) ≡ at_top g.1 [] Between = run-file g.2 in
+-- No file has the terminal that is refused.
+refused_terminal : (terminals : List Terminal) (state : State) (terminal : Terminal) → run terminals (Some start) ≡ Some state → step state terminal ≡ None → GoesOn (terminals ++ terminal ∷ []) → ⊥
+refused_terminal terminals state terminal h refused g =
+    let e : run ((terminals ++ terminal ∷ []) ++ g.0) (Some start) ≡ None =
+    run_append (terminals ++ terminal ∷ []) g.0 (Some start)
+    ∙ (ap (run g.0) (run_append terminals (terminal ∷ []) (Some start) ∙ (ap (λ s. stepped s terminal) h ∙ refused)) ∙ run_none g.0) in
+    let f : run ((terminals ++ terminal ∷ []) ++ g.0) (Some start) ≡ at_top g.1 [] Between = run-file g.2 in
     subst is_some (sym f ∙ e) tt
 
 abbrev top_of : Option State → Top
 top_of None = Between
 top_of (Some state) = state.top
 
--- Signs after which a declaration is not ended are no file.
-unfinished : (signs : List Sign) (state : State) → run signs (Some start) ≡ Some state → (state.top ≡ Between → ⊥) → IsNoFile signs
-unfinished signs state h not declarations f = not (ap top_of (sym h ∙ run-file f))
+-- Terminals after which a declaration is not ended are no file.
+unfinished : (terminals : List Terminal) (state : State) → run terminals (Some start) ≡ Some state → (state.top ≡ Between → ⊥) → IsNoFile terminals
+unfinished terminals state h not declarations f = not (ap top_of (sym h ∙ run-file f))
 
-finished : (signs : List Sign) (state : State) → run signs (Some start) ≡ Some state → state.top ≡ Between → IsFile signs state.decls
-finished signs state h top =
-    ends_file signs state.decls (ends_run signs (Some start) state.decls (subst (λ s. Ends [] s state.decls) (sym h) (top, refl)))
+finished : (terminals : List Terminal) (state : State) → run terminals (Some start) ≡ Some state → state.top ≡ Between → IsFile terminals state.decls
+finished terminals state h top =
+    ends_file terminals state.decls (ends_run terminals (Some start) state.decls (subst (λ s. Ends [] s state.decls) (sym h) (top, refl)))
 
-shallow_more : (signs : List Sign) (opened : List ℕ) (sign : Sign) → ((count : ℕ) → sum (open_in opened (take count signs)) ≤ 256) →
-    sum (open_in opened (signs ++ sign ∷ [])) ≤ 256 → (count : ℕ) → sum (open_in opened (take count (signs ++ sign ∷ []))) ≤ 256
-shallow_more [] opened sign h g zero = h 0
-shallow_more [] opened sign h g (suc count) = subst (λ l. sum (open_in opened (sign ∷ l)) ≤ 256) (sym (take-nil count)) g
-shallow_more (first ∷ signs) opened sign h g zero = h 0
-shallow_more (first ∷ signs) opened sign h g (suc count) = shallow_more signs (open_after first opened) sign (λ k. h (suc k)) g count
+shallow_more : (terminals : List Terminal) (opened : List ℕ) (terminal : Terminal) → ((count : ℕ) → sum (open_in opened (take count terminals)) ≤ 256) →
+    sum (open_in opened (terminals ++ terminal ∷ [])) ≤ 256 → (count : ℕ) → sum (open_in opened (take count (terminals ++ terminal ∷ []))) ≤ 256
+shallow_more [] opened terminal h g zero = h 0
+shallow_more [] opened terminal h g (suc count) = subst (λ l. sum (open_in opened (terminal ∷ l)) ≤ 256) (sym (take-nil count)) g
+shallow_more (first ∷ terminals) opened terminal h g zero = h 0
+shallow_more (first ∷ terminals) opened terminal h g (suc count) = shallow_more terminals (open_after first opened) terminal (λ k. h (suc k)) g count
 
 -- what is known after the first tokens
-pub record ReadSoFar (bytes : List ℕ) (front : List Token) (state : State) (opened : List ℕ) : Type 0 where
-  pub ran : run (signs_of bytes front) (Some start) ≡ Some state
-  pub opened_is : open_in [] (signs_of bytes front) ≡ opened
-  pub shallow : IsShallow (signs_of bytes front)
+pub record ReadSoFar (bytes : List ℕ) (prefix : List Token) (state : State) (opened : List ℕ) : Type 0 where
+  pub ran : run (terminals_of bytes prefix) (Some start) ≡ Some state
+  pub opened_is : open_in [] (terminals_of bytes prefix) ≡ opened
+  pub shallow : IsShallow (terminals_of bytes prefix)
 
 pub nothing_read : (bytes : List ℕ) → ReadSoFar bytes [] start []
 nothing_read bytes = record { ran = refl; opened_is = refl; shallow = λ count. rw take-nil (omega arith) }
 
-pub depth_so_far : {bytes : List ℕ} {front : List Token} {state : State} {opened : List ℕ} → ReadSoFar bytes front state opened → sum opened ≤ 256
-depth_so_far {bytes = bytes} {front = front} r =
-    let e : take (length (signs_of bytes front)) (signs_of bytes front) ≡ signs_of bytes front = take-length (signs_of bytes front) in
-    subst (λ o. sum o ≤ 256) r.opened_is (subst (λ l. sum (open_in [] l) ≤ 256) e (r.shallow (length (signs_of bytes front))))
+pub depth_so_far : {bytes : List ℕ} {prefix : List Token} {state : State} {opened : List ℕ} → ReadSoFar bytes prefix state opened → sum opened ≤ 256
+depth_so_far {bytes = bytes} {prefix = prefix} r =
+    let e : take (length (terminals_of bytes prefix)) (terminals_of bytes prefix) ≡ terminals_of bytes prefix = take-length (terminals_of bytes prefix) in
+    subst (λ o. sum o ≤ 256) r.opened_is (subst (λ l. sum (open_in [] l) ≤ 256) e (r.shallow (length (terminals_of bytes prefix))))
 
-signs_more : (bytes : List ℕ) (front : List Token) (token : Token) → signs_of bytes (front ++ token ∷ []) ≡ signs_of bytes front ++ sign_of bytes token ∷ []
-signs_more bytes front token = map-append (sign_of bytes) front (token ∷ [])
+terminals_more : (bytes : List ℕ) (prefix : List Token) (token : Token) → terminals_of bytes (prefix ++ token ∷ []) ≡ terminals_of bytes prefix ++ terminal_of bytes token ∷ []
+terminals_more bytes prefix token = map-append (terminal_of bytes) prefix (token ∷ [])
 
-run_more : {bytes : List ℕ} {front : List Token} {state after : State} {opened : List ℕ} (token : Token) →
-    ReadSoFar bytes front state opened → step state (sign_of bytes token) ≡ Some after →
-    run (signs_of bytes front ++ sign_of bytes token ∷ []) (Some start) ≡ Some after
-run_more {bytes = bytes} {front = front} token r h =
-    run_append (signs_of bytes front) (sign_of bytes token ∷ []) (Some start) ∙ (ap (λ s. stepped s (sign_of bytes token)) r.ran ∙ h)
+run_more : {bytes : List ℕ} {prefix : List Token} {state after : State} {opened : List ℕ} (token : Token) →
+    ReadSoFar bytes prefix state opened → step state (terminal_of bytes token) ≡ Some after →
+    run (terminals_of bytes prefix ++ terminal_of bytes token ∷ []) (Some start) ≡ Some after
+run_more {bytes = bytes} {prefix = prefix} token r h =
+    run_append (terminals_of bytes prefix) (terminal_of bytes token ∷ []) (Some start) ∙ (ap (λ s. stepped s (terminal_of bytes token)) r.ran ∙ h)
 
-open_more : {bytes : List ℕ} {front : List Token} {state : State} {opened : List ℕ} (token : Token) → ReadSoFar bytes front state opened →
-    open_in [] (signs_of bytes front ++ sign_of bytes token ∷ []) ≡ open_after (sign_of bytes token) opened
-open_more {bytes = bytes} {front = front} token r =
-    open_append (signs_of bytes front) (sign_of bytes token ∷ []) [] ∙ ap (open_after (sign_of bytes token)) r.opened_is
+open_more : {bytes : List ℕ} {prefix : List Token} {state : State} {opened : List ℕ} (token : Token) → ReadSoFar bytes prefix state opened →
+    open_in [] (terminals_of bytes prefix ++ terminal_of bytes token ∷ []) ≡ open_after (terminal_of bytes token) opened
+open_more {bytes = bytes} {prefix = prefix} token r =
+    open_append (terminals_of bytes prefix) (terminal_of bytes token ∷ []) [] ∙ ap (open_after (terminal_of bytes token)) r.opened_is
 
-pub read_more : {bytes : List ℕ} {front : List Token} {state after : State} {opened : List ℕ} (token : Token) →
-    ReadSoFar bytes front state opened → step state (sign_of bytes token) ≡ Some after → sum (open_after (sign_of bytes token) opened) ≤ 256 →
-    ReadSoFar bytes (front ++ token ∷ []) after (open_after (sign_of bytes token) opened)
-read_more {bytes = bytes} {front = front} {after = after} {opened = opened} token r h d =
-    let more : open_in [] (signs_of bytes front ++ sign_of bytes token ∷ []) ≡ open_after (sign_of bytes token) opened = open_more token r in
-    let e : signs_of bytes front ++ sign_of bytes token ∷ [] ≡ signs_of bytes (front ++ token ∷ []) = sym (signs_more bytes front token) in
+pub read_more : {bytes : List ℕ} {prefix : List Token} {state after : State} {opened : List ℕ} (token : Token) →
+    ReadSoFar bytes prefix state opened → step state (terminal_of bytes token) ≡ Some after → sum (open_after (terminal_of bytes token) opened) ≤ 256 →
+    ReadSoFar bytes (prefix ++ token ∷ []) after (open_after (terminal_of bytes token) opened)
+read_more {bytes = bytes} {prefix = prefix} {after = after} {opened = opened} token r h d =
+    let more : open_in [] (terminals_of bytes prefix ++ terminal_of bytes token ∷ []) ≡ open_after (terminal_of bytes token) opened = open_more token r in
+    let e : terminals_of bytes prefix ++ terminal_of bytes token ∷ [] ≡ terminals_of bytes (prefix ++ token ∷ []) = sym (terminals_more bytes prefix token) in
     record {
       ran = subst (λ l. run l (Some start) ≡ Some after) e (run_more token r h);
-      opened_is = subst (λ l. open_in [] l ≡ open_after (sign_of bytes token) opened) e more;
-      shallow = subst IsShallow e (shallow_more (signs_of bytes front) [] (sign_of bytes token) r.shallow (subst (λ o. sum o ≤ 256) (sym more) d));
+      opened_is = subst (λ l. open_in [] l ≡ open_after (terminal_of bytes token) opened) e more;
+      shallow = subst IsShallow e (shallow_more (terminals_of bytes prefix) [] (terminal_of bytes token) r.shallow (subst (λ o. sum o ≤ 256) (sym more) d));
     }
 
-pub refused_at : {bytes : List ℕ} {front : List Token} {state : State} {opened : List ℕ} (tokens : List Token) (token : Token) (rest : List Token) (size : ℕ) →
-    ReadSoFar bytes front state opened → step state (sign_of bytes token) ≡ None → tokens ≡ front ++ token ∷ rest → IsExpected bytes tokens size token.start
-refused_at {bytes = bytes} {front = front} {state = state} tokens token rest size r h parts =
+pub refused_at : {bytes : List ℕ} {prefix : List Token} {state : State} {opened : List ℕ} (tokens : List Token) (token : Token) (rest : List Token) (size : ℕ) →
+    ReadSoFar bytes prefix state opened → step state (terminal_of bytes token) ≡ None → tokens ≡ prefix ++ token ∷ rest → IsExpected bytes tokens size token.start
+refused_at {bytes = bytes} {prefix = prefix} {state = state} tokens token rest size r h parts =
     record {
-      front = front;
+      prefix = prefix;
       rest = token ∷ rest;
       parts = parts;
-      goes_on = goes_on (signs_of bytes front) state r.ran;
-      no_further = refused_sign (signs_of bytes front) state (sign_of bytes token) r.ran h;
+      goes_on = goes_on (terminals_of bytes prefix) state r.ran;
+      no_further = refused_terminal (terminals_of bytes prefix) state (terminal_of bytes token) r.ran h;
       shallow = r.shallow;
       place_is = refl;
     }
 
-pub too_deep_at : {bytes : List ℕ} {front : List Token} {state after : State} {opened : List ℕ} (tokens : List Token) (token : Token) (rest : List Token) →
-    ReadSoFar bytes front state opened → step state (sign_of bytes token) ≡ Some after → 256 < sum (open_after (sign_of bytes token) opened) →
-    tokens ≡ front ++ token ∷ rest → IsTooDeep bytes tokens token.start
-too_deep_at {bytes = bytes} {front = front} {after = after} {opened = opened} tokens token rest r h d parts =
+pub too_deep_at : {bytes : List ℕ} {prefix : List Token} {state after : State} {opened : List ℕ} (tokens : List Token) (token : Token) (rest : List Token) →
+    ReadSoFar bytes prefix state opened → step state (terminal_of bytes token) ≡ Some after → 256 < sum (open_after (terminal_of bytes token) opened) →
+    tokens ≡ prefix ++ token ∷ rest → IsTooDeep bytes tokens token.start
+too_deep_at {bytes = bytes} {prefix = prefix} {after = after} {opened = opened} tokens token rest r h d parts =
     record {
-      front = front;
+      prefix = prefix;
       token = token;
       rest = rest;
       parts = parts;
-      goes_on = goes_on (signs_of bytes front ++ sign_of bytes token ∷ []) after (run_more token r h);
+      goes_on = goes_on (terminals_of bytes prefix ++ terminal_of bytes token ∷ []) after (run_more token r h);
       shallow = r.shallow;
       deep = subst (λ o. 256 < sum o) (sym (open_more token r)) d;
       place_is = refl;
@@ -151,11 +151,11 @@ pub unfinished_at : {bytes : List ℕ} {tokens : List Token} {state : State} {op
     ReadSoFar bytes tokens state opened → (state.top ≡ Between → ⊥) → IsExpected bytes tokens size size
 unfinished_at {bytes = bytes} {tokens = tokens} {state = state} size r not =
     record {
-      front = tokens;
+      prefix = tokens;
       rest = [];
       parts = sym (append-nil tokens);
-      goes_on = goes_on (signs_of bytes tokens) state r.ran;
-      no_further = unfinished (signs_of bytes tokens) state r.ran not;
+      goes_on = goes_on (terminals_of bytes tokens) state r.ran;
+      no_further = unfinished (terminals_of bytes tokens) state r.ran not;
       shallow = r.shallow;
       place_is = refl;
     }
@@ -163,7 +163,7 @@ unfinished_at {bytes = bytes} {tokens = tokens} {state = state} size r not =
 pub parsed_whole : {bytes : List ℕ} {tokens : List Token} {state : State} {opened : List ℕ} →
     ReadSoFar bytes tokens state opened → state.top ≡ Between → IsParsed bytes tokens state.decls
 parsed_whole {bytes = bytes} {tokens = tokens} {state = state} r top =
-    record { file = finished (signs_of bytes tokens) state r.ran top; shallow = r.shallow }
+    record { file = finished (terminals_of bytes tokens) state r.ran top; shallow = r.shallow }
 
 -- the tokens, cut at one of them
 pub cut_at : (tokens : List Token) (i : ℕ) (d : Token) → i < length tokens → tokens ≡ take i tokens ++ get_or tokens i d ∷ drop (suc i) tokens

@@ -1,4 +1,4 @@
-pub mod Signs
+pub mod Terminals
 pub mod Productions
 pub mod Nesting
 pub mod Files

@@ -7,14 +7,12 @@ mod nesting;
 pub mod parse_fault;
 pub mod parsing;
 mod rule_steps;
-pub mod sign;
+pub mod terminal;
 mod state;
 mod steps;
 mod term_steps;
-#[cfg(test)]
-mod tests;
 mod type_steps;
 
 pub use parse_fault::ParseFault;
 pub use parsing::{a_file_has_one_tree, parse};
-pub use sign::{Keyword, Sign};
+pub use terminal::{Keyword, Terminal};

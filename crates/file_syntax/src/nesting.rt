@@ -3,7 +3,7 @@
 ghost use Rattle.std.specs.Prelude.{◌≡◌, ◌<◌, ◌≤◌, ◌+◌, [], ◌∷◌, IfOk, sum};
 ghost use Rattle.file_syntax.specs.Nesting.{open_after, one_deeper, one_closed};
 
-use crate::sign::Sign;
+use crate::terminal::Terminal;
 use std::alloc::{AllocError, Global};
 use std::marker::Model;
 
@@ -74,15 +74,15 @@ impl Nesting {
         }
     }
 
-    /// What is open after the sign.
-    pub(crate) fn pass(&mut self, sign: Sign) -> Result<(), AllocError>
+    /// What is open after the terminal.
+    pub(crate) fn pass(&mut self, terminal: Terminal) -> Result<(), AllocError>
         requires { sum self.old < 1000 }
-        ensures { IfOk result (λ _. self.new ≡ open_after sign self.old) }
+        ensures { IfOk result (λ _. self.new ≡ open_after terminal self.old) }
     {
-        match sign {
-            Sign::LParen(_) | Sign::LBrace(_) => self.enter(),
-            Sign::LBracket(_) => self.deepen(),
-            Sign::RParen(_) | Sign::RBrace(_) => {
+        match terminal {
+            Terminal::LParen(_) | Terminal::LBrace(_) => self.enter(),
+            Terminal::LBracket(_) => self.deepen(),
+            Terminal::RParen(_) | Terminal::RBrace(_) => {
                 self.leave();
                 Ok(())
             }

@@ -6,17 +6,15 @@ ghost use Rattle.file_syntax.specs.Files.{IsParsed, IsFaultOf, IsOneFile};
 ghost use Rattle.file_syntax.specs.Reading.{start};
 ghost use Rattle.lex_text.specs.declared.token.Token.{Token};
 
+use basics::limits::DEEPEST_NESTING;
 use crate::nesting::Nesting;
 use crate::parse_fault::ParseFault;
-use crate::sign::sign_at;
-use crate::state::{Frames, State, Stop, Top};
+use crate::terminal::terminal_at;
+use crate::state::{Frames, State, StepFault, Top};
 use crate::steps::step;
 use file_trees::{DeclTrees, FileTree};
 use lex_text::{Token, Tokens};
 use std::alloc::Global;
-
-/// How deep a file may be nested.
-const DEEPEST: u32 = 256;
 
 /// The tree of a file from the tokens of its text. `Expected` comes at the first token that no file
 /// of the grammar has after the tokens before it, and `TooDeep` at the first parenthesis, brace or
@@ -57,16 +55,16 @@ fn parse_tokens(
     let mut state = start(alloc);
     let mut nesting = Nesting::new(alloc);
     for token in tokens {
-        let sign = sign_at(bytes, token);
-        match step(alloc, &mut state, sign) {
+        let terminal = terminal_at(bytes, token);
+        match step(alloc, &mut state, terminal) {
             Ok(()) => (),
-            Err(Stop::Refused) => return Err(ParseFault::Expected(token.start)),
-            Err(Stop::NoMemory) => return Err(ParseFault::NoMemory),
+            Err(StepFault::Refused) => return Err(ParseFault::Expected(token.start)),
+            Err(StepFault::NoMemory) => return Err(ParseFault::NoMemory),
         }
-        if nesting.pass(sign).is_err() {
+        if nesting.pass(terminal).is_err() {
             return Err(ParseFault::NoMemory);
         }
-        if nesting.depth() > DEEPEST {
+        if nesting.depth() > DEEPEST_NESTING {
             return Err(ParseFault::TooDeep(token.start));
         }
     }

@@ -1,10 +1,10 @@
 //! Steps within a rule.
 
 ghost use Rattle.std.specs.Prelude.{◌≡◌, ◌++◌, ◌∷◌, [], IfOk, IsErrOf, None, Some};
-ghost use Rattle.file_syntax.specs.Reading.{phase_of, builder_of, next_part, next_word, next_number, next_colon, past_subject, past_major, rule_from, ended_rule, in_rule, ended};
+ghost use Rattle.file_syntax.specs.Reading.{phase_of, builder_word, next_part, next_word, next_number, next_colon, past_subject, past_major, rule_from, ended_rule, in_rule, ended};
 
-use crate::sign::{Keyword, Sign};
-use crate::state::{RuleHead, RulePart, State, Stop, Top};
+use crate::terminal::{Keyword, Terminal};
+use crate::state::{RuleHead, RulePart, State, StepFault, Top};
 use file_trees::{BuildWord, DeclTree, PhaseWord, Span};
 
 fn phase_of(word: Keyword) -> Option<PhaseWord>
@@ -18,8 +18,8 @@ fn phase_of(word: Keyword) -> Option<PhaseWord>
     }
 }
 
-fn builder_of(word: Keyword) -> Option<BuildWord>
-    ensures { result ≡ builder_of word }
+fn builder_word(word: Keyword) -> Option<BuildWord>
+    ensures { result ≡ builder_word word }
 {
     match word {
         Keyword::Apply => Some(BuildWord::Apply),
@@ -62,7 +62,7 @@ fn next_word(part: RulePart, word: Keyword, span: Span) -> Option<RulePart>
             Some(phase) => Some(RulePart::ToNumber(name, phase)),
             None => None,
         },
-        RulePart::ToBuilder(name, phase, number) => match builder_of(word) {
+        RulePart::ToBuilder(name, phase, number) => match builder_word(word) {
             Some(builder) => Some(RulePart::ToSubject(name, phase, number, builder)),
             None => None,
         },
@@ -85,13 +85,13 @@ fn next_word(part: RulePart, word: Keyword, span: Span) -> Option<RulePart>
 }
 
 /// What follows a part of a rule, but for its end.
-fn next_part(part: RulePart, sign: Sign) -> Option<RulePart>
-    ensures { result ≡ next_part part sign }
+fn next_part(part: RulePart, terminal: Terminal) -> Option<RulePart>
+    ensures { result ≡ next_part part terminal }
 {
-    match sign {
-        Sign::Word(word, span) => next_word(part, word, span),
-        Sign::Number(span) => next_number(part, span),
-        Sign::Colon(_) => next_colon(part),
+    match terminal {
+        Terminal::Word(word, span) => next_word(part, word, span),
+        Terminal::Number(span) => next_number(part, span),
+        Terminal::Colon(_) => next_colon(part),
         _ => None,
     }
 }
@@ -144,30 +144,30 @@ fn ended_rule(part: RulePart) -> Option<DeclTree>
 }
 
 /// A declaration ends.
-pub(crate) fn ended(state: &mut State, declaration: Option<DeclTree>) -> Result<(), Stop>
+pub(crate) fn ended(state: &mut State, declaration: Option<DeclTree>) -> Result<(), StepFault>
     ensures ok { IfOk result (λ _. ended state.old.decls state.old.frames declaration ≡ Some state.new) }
-    ensures refused { IsErrOf result Stop.Refused → ended state.old.decls state.old.frames declaration ≡ None }
+    ensures refused { IsErrOf result StepFault.Refused → ended state.old.decls state.old.frames declaration ≡ None }
 {
     let Some(declaration) = declaration else {
-        return Err(Stop::Refused);
+        return Err(StepFault::Refused);
     };
     state.decls.push(declaration)?;
     state.top = Top::Between;
     Ok(())
 }
 
-pub(crate) fn in_rule(state: &mut State, part: RulePart, sign: Sign) -> Result<(), Stop>
-    ensures ok { IfOk result (λ _. in_rule state.old.decls state.old.frames part sign ≡ Some state.new) }
-    ensures refused { IsErrOf result Stop.Refused → in_rule state.old.decls state.old.frames part sign ≡ None }
+pub(crate) fn in_rule(state: &mut State, part: RulePart, terminal: Terminal) -> Result<(), StepFault>
+    ensures ok { IfOk result (λ _. in_rule state.old.decls state.old.frames part terminal ≡ Some state.new) }
+    ensures refused { IsErrOf result StepFault.Refused → in_rule state.old.decls state.old.frames part terminal ≡ None }
 {
-    if let Sign::Dot(_) = sign {
+    if let Terminal::Dot(_) = terminal {
         return ended(state, ended_rule(part));
     }
-    match next_part(part, sign) {
+    match next_part(part, terminal) {
         Some(next) => {
             state.top = Top::InRule(next);
             Ok(())
         }
-        None => Err(Stop::Refused),
+        None => Err(StepFault::Refused),
     }
 }

@@ -9,7 +9,7 @@ use std::marker::Model;
 
 /// What a declaration with a colon and a type or a kind declares.
 #[derive(Clone, Copy)]
-pub(crate) enum Goal {
+pub(crate) enum Purpose {
     Family,
     Const,
     Theorem,
@@ -55,9 +55,9 @@ pub(crate) enum Top {
     /// Between two declarations.
     Between,
     /// Before the name of a family, a constant or a theorem, and before its colon.
-    GoalName(Goal),
-    GoalColon(Goal, Span),
-    /// Before the name of a `data` declaration, before its equals sign, and among its names.
+    GoalName(Purpose),
+    GoalColon(Purpose, Span),
+    /// Before the name of a `data` declaration, before its equals terminal, and among its names.
     DataName,
     DataEquals(Span),
     DataNames(Span, Spans),
@@ -82,7 +82,7 @@ pub(crate) enum Top {
 /// argument up to its closing parenthesis.
 #[derive(Drop)]
 pub(crate) enum Frame {
-    Declared(Goal, Span),
+    Declared(Purpose, Span),
     Brace(Binders, Span),
     Group(Binders),
     Argument(Owner, TermTrees),
@@ -117,21 +117,21 @@ pub(crate) struct State {
 
 /// Why a token is not read.
 #[derive(Clone, Copy)]
-pub(crate) enum Stop {
+pub(crate) enum StepFault {
     /// No file has it here.
     Refused,
     /// Memory ran out.
     NoMemory,
 }
 
-impl From<AllocError> for Stop {
-    ghost use Rattle.file_syntax.specs.declared.state.Stop.TheVariants as stops;
+impl From<AllocError> for StepFault {
+    ghost use Rattle.file_syntax.specs.declared.state.StepFault.TheVariants as stops;
     ghost use Rattle.std.specs.Prelude.{◌≡◌};
 
     ghost from_gives = { λ _ stop. stop ≡ stops.NoMemory };
 
-    fn from(_refusal: AllocError) -> Stop {
-        Stop::NoMemory
+    fn from(_refusal: AllocError) -> StepFault {
+        StepFault::NoMemory
     }
 }
 
@@ -165,7 +165,7 @@ impl Frames {
         ensures { result ≡ stands_at_kind self.now }
     {
         match self.items.last() {
-            Some(Frame::Declared(Goal::Family, _)) => true,
+            Some(Frame::Declared(Purpose::Family, _)) => true,
             Some(_) => false,
             None => false,
         }

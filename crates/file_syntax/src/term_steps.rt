@@ -5,8 +5,8 @@ ghost use Rattle.file_syntax.specs.Reading.{more_arguments, abstracted, close_te
 ghost use Rattle.file_trees.specs.Trees.{applied};
 ghost use Rattle.file_trees.specs.TermViews.{tree_of};
 
-use crate::sign::Sign;
-use crate::state::{Frame, Owner, State, Stop, Top};
+use crate::terminal::Terminal;
+use crate::state::{Frame, Owner, State, StepFault, Top};
 use crate::type_steps::{close_type, past_arrow};
 use file_trees::{Binders, Part, Span, Spans, TermTree, TermTrees, TypeTree};
 use std::alloc::{AllocError, Global};
@@ -17,9 +17,9 @@ fn more_arguments(
     owner: Owner,
     mut arguments: TermTrees,
     argument: TermTree,
-) -> Result<(), Stop>
+) -> Result<(), StepFault>
     ensures ok { IfOk result (λ _. more_arguments state.old.decls state.old.frames owner arguments (tree_of argument) ≡ Some state.new) }
-    ensures refused { IsErrOf result Stop.Refused → more_arguments state.old.decls state.old.frames owner arguments (tree_of argument) ≡ None }
+    ensures refused { IsErrOf result StepFault.Refused → more_arguments state.old.decls state.old.frames owner arguments (tree_of argument) ≡ None }
 {
     arguments.push(argument)?;
     state.top = Top::Arguments(owner, arguments);
@@ -51,77 +51,77 @@ fn abstracted(alloc: Global, mut spans: Spans, term: TermTree) -> Result<TermTre
 }
 
 /// A term in parentheses ends.
-fn close_term(state: &mut State, term: TermTree) -> Result<(), Stop>
+fn close_term(state: &mut State, term: TermTree) -> Result<(), StepFault>
     ensures ok { IfOk result (λ _. close_term state.old.decls state.old.frames (tree_of term) ≡ Some state.new) }
-    ensures refused { IsErrOf result Stop.Refused → close_term state.old.decls state.old.frames (tree_of term) ≡ None }
+    ensures refused { IsErrOf result StepFault.Refused → close_term state.old.decls state.old.frames (tree_of term) ≡ None }
 {
     match state.frames.pop() {
         Some(Frame::Argument(owner, arguments)) => { more_arguments(state, owner, arguments, term) }
-        _ => Err(Stop::Refused),
+        _ => Err(StepFault::Refused),
     }
 }
 
-/// After a family and some arguments, at a sign that begins no argument.
+/// After a family and some arguments, at a terminal that begins no argument.
 fn family_arguments(
     alloc: Global,
     state: &mut State,
     binders: Binders,
     head: Span,
     arguments: TermTrees,
-    sign: Sign,
-) -> Result<(), Stop>
-    ensures ok { IfOk result (λ _. family_arguments state.old.decls state.old.frames binders head arguments sign ≡ Some state.new) }
-    ensures refused { IsErrOf result Stop.Refused → family_arguments state.old.decls state.old.frames binders head arguments sign ≡ None }
+    terminal: Terminal,
+) -> Result<(), StepFault>
+    ensures ok { IfOk result (λ _. family_arguments state.old.decls state.old.frames binders head arguments terminal ≡ Some state.new) }
+    ensures refused { IsErrOf result StepFault.Refused → family_arguments state.old.decls state.old.frames binders head arguments terminal ≡ None }
 {
-    if let Sign::Arrow(_) = sign {
+    if let Terminal::Arrow(_) = terminal {
         let left = TypeTree::family(Binders::new(alloc), head, arguments);
         return past_arrow(state, binders, left);
     }
     let tree = TypeTree::family(binders, head, arguments);
-    close_type(state, tree, sign)
+    close_type(state, tree, terminal)
 }
 
-/// After a head and some arguments, or before a head, at a sign that begins no argument.
+/// After a head and some arguments, or before a head, at a terminal that begins no argument.
 fn term_arguments(
     alloc: Global,
     state: &mut State,
     binders: Spans,
     arguments: TermTrees,
-    sign: Sign,
-) -> Result<(), Stop>
-    ensures ok { IfOk result (λ _. term_arguments state.old.decls state.old.frames binders arguments sign ≡ Some state.new) }
-    ensures refused { IsErrOf result Stop.Refused → term_arguments state.old.decls state.old.frames binders arguments sign ≡ None }
+    terminal: Terminal,
+) -> Result<(), StepFault>
+    ensures ok { IfOk result (λ _. term_arguments state.old.decls state.old.frames binders arguments terminal ≡ Some state.new) }
+    ensures refused { IsErrOf result StepFault.Refused → term_arguments state.old.decls state.old.frames binders arguments terminal ≡ None }
 {
-    match (arguments.split(), sign) {
-        (None, Sign::LBracket(bracket)) => {
+    match (arguments.split(), terminal) {
+        (None, Terminal::LBracket(bracket)) => {
             state.top = Top::AbsName(binders, bracket);
             Ok(())
         }
-        (Some((head, rest)), Sign::RParen(_)) => {
+        (Some((head, rest)), Terminal::RParen(_)) => {
             let term = applied(alloc, head, rest)?;
             let whole = abstracted(alloc, binders, term)?;
             close_term(state, whole)
         }
-        _ => Err(Stop::Refused),
+        _ => Err(StepFault::Refused),
     }
 }
 
-/// Among arguments, at a sign that begins none.
+/// Among arguments, at a terminal that begins none.
 fn no_argument(
     alloc: Global,
     state: &mut State,
     owner: Owner,
     arguments: TermTrees,
-    sign: Sign,
-) -> Result<(), Stop>
-    ensures ok { IfOk result (λ _. no_argument state.old.decls state.old.frames owner arguments sign ≡ Some state.new) }
-    ensures refused { IsErrOf result Stop.Refused → no_argument state.old.decls state.old.frames owner arguments sign ≡ None }
+    terminal: Terminal,
+) -> Result<(), StepFault>
+    ensures ok { IfOk result (λ _. no_argument state.old.decls state.old.frames owner arguments terminal ≡ Some state.new) }
+    ensures refused { IsErrOf result StepFault.Refused → no_argument state.old.decls state.old.frames owner arguments terminal ≡ None }
 {
     match owner {
         Owner::Family(binders, head) => {
-            family_arguments(alloc, state, binders, head, arguments, sign)
+            family_arguments(alloc, state, binders, head, arguments, terminal)
         }
-        Owner::Term(binders) => term_arguments(alloc, state, binders, arguments, sign),
+        Owner::Term(binders) => term_arguments(alloc, state, binders, arguments, terminal),
     }
 }
 
@@ -131,20 +131,20 @@ pub(crate) fn among_arguments(
     state: &mut State,
     owner: Owner,
     arguments: TermTrees,
-    sign: Sign,
-) -> Result<(), Stop>
-    ensures ok { IfOk result (λ _. among_arguments state.old.decls state.old.frames owner arguments sign ≡ Some state.new) }
-    ensures refused { IsErrOf result Stop.Refused → among_arguments state.old.decls state.old.frames owner arguments sign ≡ None }
+    terminal: Terminal,
+) -> Result<(), StepFault>
+    ensures ok { IfOk result (λ _. among_arguments state.old.decls state.old.frames owner arguments terminal ≡ Some state.new) }
+    ensures refused { IsErrOf result StepFault.Refused → among_arguments state.old.decls state.old.frames owner arguments terminal ≡ None }
 {
-    match sign {
-        Sign::Word(_, span) => { more_arguments(state, owner, arguments, TermTree::Leaf(span)) }
-        Sign::Var(span) => more_arguments(state, owner, arguments, TermTree::Leaf(span)),
-        Sign::LParen(_) => {
+    match terminal {
+        Terminal::Word(_, span) => { more_arguments(state, owner, arguments, TermTree::Leaf(span)) }
+        Terminal::Var(span) => more_arguments(state, owner, arguments, TermTree::Leaf(span)),
+        Terminal::LParen(_) => {
             state.frames.push(Frame::Argument(owner, arguments))?;
             state.top = Top::Arguments(Owner::Term(Spans::new(alloc)), TermTrees::new(alloc));
             Ok(())
         }
-        _ => no_argument(alloc, state, owner, arguments, sign),
+        _ => no_argument(alloc, state, owner, arguments, terminal),
     }
 }
 
@@ -153,17 +153,17 @@ pub(crate) fn abs_name(
     state: &mut State,
     binders: Spans,
     bracket: Span,
-    sign: Sign,
-) -> Result<(), Stop>
-    ensures ok { IfOk result (λ _. abs_name state.old.decls state.old.frames binders bracket sign ≡ Some state.new) }
-    ensures refused { IsErrOf result Stop.Refused → abs_name state.old.decls state.old.frames binders bracket sign ≡ None }
+    terminal: Terminal,
+) -> Result<(), StepFault>
+    ensures ok { IfOk result (λ _. abs_name state.old.decls state.old.frames binders bracket terminal ≡ Some state.new) }
+    ensures refused { IsErrOf result StepFault.Refused → abs_name state.old.decls state.old.frames binders bracket terminal ≡ None }
 {
-    match sign {
-        Sign::Word(_, _) | Sign::Var(_) => {
+    match terminal {
+        Terminal::Word(_, _) | Terminal::Var(_) => {
             state.top = Top::AbsClose(binders, bracket);
             Ok(())
         }
-        _ => Err(Stop::Refused),
+        _ => Err(StepFault::Refused),
     }
 }
 
@@ -173,13 +173,13 @@ pub(crate) fn abs_close(
     state: &mut State,
     mut binders: Spans,
     bracket: Span,
-    sign: Sign,
-) -> Result<(), Stop>
-    ensures ok { IfOk result (λ _. abs_close state.old.decls state.old.frames binders bracket sign ≡ Some state.new) }
-    ensures refused { IsErrOf result Stop.Refused → abs_close state.old.decls state.old.frames binders bracket sign ≡ None }
+    terminal: Terminal,
+) -> Result<(), StepFault>
+    ensures ok { IfOk result (λ _. abs_close state.old.decls state.old.frames binders bracket terminal ≡ Some state.new) }
+    ensures refused { IsErrOf result StepFault.Refused → abs_close state.old.decls state.old.frames binders bracket terminal ≡ None }
 {
-    let Sign::RBracket(close) = sign else {
-        return Err(Stop::Refused);
+    let Terminal::RBracket(close) = terminal else {
+        return Err(StepFault::Refused);
     };
     binders.push(Span {
         start: bracket.start,

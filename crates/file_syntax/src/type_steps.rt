@@ -5,8 +5,8 @@ ghost use Rattle.file_syntax.specs.Reading.{type_start, pi_name, pi_colon, typed
 ghost use Rattle.file_trees.specs.Trees.{bind, star};
 
 use crate::rule_steps::ended;
-use crate::sign::Sign;
-use crate::state::{Frame, Goal, Owner, State, Stop, Top};
+use crate::terminal::Terminal;
+use crate::state::{Frame, Purpose, Owner, State, StepFault, Top};
 use file_trees::{Binder, Binders, DeclTree, Span, TermTrees, TypeTree};
 use std::alloc::Global;
 
@@ -15,27 +15,27 @@ pub(crate) fn type_start(
     alloc: Global,
     state: &mut State,
     binders: Binders,
-    sign: Sign,
-) -> Result<(), Stop>
-    ensures ok { IfOk result (λ _. type_start state.old.decls state.old.frames binders sign ≡ Some state.new) }
-    ensures refused { IsErrOf result Stop.Refused → type_start state.old.decls state.old.frames binders sign ≡ None }
+    terminal: Terminal,
+) -> Result<(), StepFault>
+    ensures ok { IfOk result (λ _. type_start state.old.decls state.old.frames binders terminal ≡ Some state.new) }
+    ensures refused { IsErrOf result StepFault.Refused → type_start state.old.decls state.old.frames binders terminal ≡ None }
 {
-    let top = match sign {
-        Sign::TypeWord(span) => {
+    let top = match terminal {
+        Terminal::TypeWord(span) => {
             if !state.frames.is_at_kind() {
-                return Err(Stop::Refused);
+                return Err(StepFault::Refused);
             }
             Top::StarEnd(binders, span)
         }
-        Sign::LBrace(span) => Top::PiName(binders, span),
-        Sign::LParen(_) => {
+        Terminal::LBrace(span) => Top::PiName(binders, span),
+        Terminal::LParen(_) => {
             state.frames.push(Frame::Group(binders))?;
             Top::TypeStart(Binders::new(alloc))
         }
-        Sign::Word(_, span) => {
+        Terminal::Word(_, span) => {
             Top::Arguments(Owner::Family(binders, span), TermTrees::new(alloc))
         }
-        _ => return Err(Stop::Refused),
+        _ => return Err(StepFault::Refused),
     };
     state.top = top;
     Ok(())
@@ -46,17 +46,17 @@ pub(crate) fn pi_name(
     state: &mut State,
     binders: Binders,
     brace: Span,
-    sign: Sign,
-) -> Result<(), Stop>
-    ensures ok { IfOk result (λ _. pi_name state.old.decls state.old.frames binders brace sign ≡ Some state.new) }
-    ensures refused { IsErrOf result Stop.Refused → pi_name state.old.decls state.old.frames binders brace sign ≡ None }
+    terminal: Terminal,
+) -> Result<(), StepFault>
+    ensures ok { IfOk result (λ _. pi_name state.old.decls state.old.frames binders brace terminal ≡ Some state.new) }
+    ensures refused { IsErrOf result StepFault.Refused → pi_name state.old.decls state.old.frames binders brace terminal ≡ None }
 {
-    match sign {
-        Sign::Word(_, _) | Sign::Var(_) => {
+    match terminal {
+        Terminal::Word(_, _) | Terminal::Var(_) => {
             state.top = Top::PiColon(binders, brace);
             Ok(())
         }
-        _ => Err(Stop::Refused),
+        _ => Err(StepFault::Refused),
     }
 }
 
@@ -66,13 +66,13 @@ pub(crate) fn pi_colon(
     state: &mut State,
     binders: Binders,
     brace: Span,
-    sign: Sign,
-) -> Result<(), Stop>
-    ensures ok { IfOk result (λ _. pi_colon state.old.decls state.old.frames binders brace sign ≡ Some state.new) }
-    ensures refused { IsErrOf result Stop.Refused → pi_colon state.old.decls state.old.frames binders brace sign ≡ None }
+    terminal: Terminal,
+) -> Result<(), StepFault>
+    ensures ok { IfOk result (λ _. pi_colon state.old.decls state.old.frames binders brace terminal ≡ Some state.new) }
+    ensures refused { IsErrOf result StepFault.Refused → pi_colon state.old.decls state.old.frames binders brace terminal ≡ None }
 {
-    let Sign::Colon(colon) = sign else {
-        return Err(Stop::Refused);
+    let Terminal::Colon(colon) = terminal else {
+        return Err(StepFault::Refused);
     };
     let binder = Span {
         start: brace.start,
@@ -84,13 +84,13 @@ pub(crate) fn pi_colon(
 }
 
 /// The declaration of a type. A family has a kind, and no type.
-fn typed(goal: Goal, name: Span, tree: TypeTree) -> Option<DeclTree>
+fn typed(goal: Purpose, name: Span, tree: TypeTree) -> Option<DeclTree>
     ensures { result ≡ typed goal name tree }
 {
     match goal {
-        Goal::Family => None,
-        Goal::Const => Some(DeclTree::Const(name, tree)),
-        Goal::Theorem => Some(DeclTree::Theorem(name, tree)),
+        Purpose::Family => None,
+        Purpose::Const => Some(DeclTree::Const(name, tree)),
+        Purpose::Theorem => Some(DeclTree::Theorem(name, tree)),
     }
 }
 
@@ -100,32 +100,32 @@ fn close_brace(
     mut binders: Binders,
     binder: Span,
     tree: TypeTree,
-) -> Result<(), Stop>
+) -> Result<(), StepFault>
     ensures ok { IfOk result (λ _. close_brace state.old.decls state.old.frames binders binder tree ≡ Some state.new) }
-    ensures refused { IsErrOf result Stop.Refused → close_brace state.old.decls state.old.frames binders binder tree ≡ None }
+    ensures refused { IsErrOf result StepFault.Refused → close_brace state.old.decls state.old.frames binders binder tree ≡ None }
 {
     binders.push(Binder::Pi(binder, tree))?;
     state.top = Top::TypeStart(binders);
     Ok(())
 }
 
-/// A type ends at the sign.
-pub(crate) fn close_type(state: &mut State, tree: TypeTree, sign: Sign) -> Result<(), Stop>
-    ensures ok { IfOk result (λ _. close_type state.old.decls state.old.frames tree sign ≡ Some state.new) }
-    ensures refused { IsErrOf result Stop.Refused → close_type state.old.decls state.old.frames tree sign ≡ None }
+/// A type ends at the terminal.
+pub(crate) fn close_type(state: &mut State, tree: TypeTree, terminal: Terminal) -> Result<(), StepFault>
+    ensures ok { IfOk result (λ _. close_type state.old.decls state.old.frames tree terminal ≡ Some state.new) }
+    ensures refused { IsErrOf result StepFault.Refused → close_type state.old.decls state.old.frames tree terminal ≡ None }
 {
-    match (state.frames.pop(), sign) {
-        (Some(Frame::Declared(goal, name)), Sign::Dot(_)) => {
+    match (state.frames.pop(), terminal) {
+        (Some(Frame::Declared(goal, name)), Terminal::Dot(_)) => {
             ended(state, typed(goal, name, tree))
         }
-        (Some(Frame::Brace(binders, binder)), Sign::RBrace(_)) => {
+        (Some(Frame::Brace(binders, binder)), Terminal::RBrace(_)) => {
             close_brace(state, binders, binder, tree)
         }
-        (Some(Frame::Group(binders)), Sign::RParen(_)) => {
+        (Some(Frame::Group(binders)), Terminal::RParen(_)) => {
             state.top = Top::GroupEnd(binders, tree);
             Ok(())
         }
-        _ => Err(Stop::Refused),
+        _ => Err(StepFault::Refused),
     }
 }
 
@@ -134,9 +134,9 @@ pub(crate) fn past_arrow(
     state: &mut State,
     mut binders: Binders,
     left: TypeTree,
-) -> Result<(), Stop>
+) -> Result<(), StepFault>
     ensures ok { IfOk result (λ _. past_arrow state.old.decls state.old.frames binders left ≡ Some state.new) }
-    ensures refused { IsErrOf result Stop.Refused → past_arrow state.old.decls state.old.frames binders left ≡ None }
+    ensures refused { IsErrOf result StepFault.Refused → past_arrow state.old.decls state.old.frames binders left ≡ None }
 {
     binders.push(Binder::Arrow(left))?;
     state.top = Top::TypeStart(binders);
@@ -149,30 +149,30 @@ pub(crate) fn group_end(
     state: &mut State,
     binders: Binders,
     inner: TypeTree,
-    sign: Sign,
-) -> Result<(), Stop>
-    ensures ok { IfOk result (λ _. group_end state.old.decls state.old.frames binders inner sign ≡ Some state.new) }
-    ensures refused { IsErrOf result Stop.Refused → group_end state.old.decls state.old.frames binders inner sign ≡ None }
+    terminal: Terminal,
+) -> Result<(), StepFault>
+    ensures ok { IfOk result (λ _. group_end state.old.decls state.old.frames binders inner terminal ≡ Some state.new) }
+    ensures refused { IsErrOf result StepFault.Refused → group_end state.old.decls state.old.frames binders inner terminal ≡ None }
 {
-    if let Sign::Arrow(_) = sign {
+    if let Terminal::Arrow(_) = terminal {
         return past_arrow(state, binders, inner);
     }
     let tree = TypeTree::group(alloc, binders, inner)?;
-    close_type(state, tree, sign)
+    close_type(state, tree, terminal)
 }
 
 /// A kind ends.
-fn close_kind(state: &mut State, tree: TypeTree) -> Result<(), Stop>
+fn close_kind(state: &mut State, tree: TypeTree) -> Result<(), StepFault>
     ensures ok { IfOk result (λ _. close_kind state.old.decls state.old.frames tree ≡ Some state.new) }
-    ensures refused { IsErrOf result Stop.Refused → close_kind state.old.decls state.old.frames tree ≡ None }
+    ensures refused { IsErrOf result StepFault.Refused → close_kind state.old.decls state.old.frames tree ≡ None }
 {
     match state.frames.pop() {
-        Some(Frame::Declared(Goal::Family, name)) => {
+        Some(Frame::Declared(Purpose::Family, name)) => {
             state.decls.push(DeclTree::Family(name, tree))?;
             state.top = Top::Between;
             Ok(())
         }
-        _ => Err(Stop::Refused),
+        _ => Err(StepFault::Refused),
     }
 }
 
@@ -181,13 +181,13 @@ pub(crate) fn star_end(
     state: &mut State,
     binders: Binders,
     word: Span,
-    sign: Sign,
-) -> Result<(), Stop>
-    ensures ok { IfOk result (λ _. star_end state.old.decls state.old.frames binders word sign ≡ Some state.new) }
-    ensures refused { IsErrOf result Stop.Refused → star_end state.old.decls state.old.frames binders word sign ≡ None }
+    terminal: Terminal,
+) -> Result<(), StepFault>
+    ensures ok { IfOk result (λ _. star_end state.old.decls state.old.frames binders word terminal ≡ Some state.new) }
+    ensures refused { IsErrOf result StepFault.Refused → star_end state.old.decls state.old.frames binders word terminal ≡ None }
 {
-    match sign {
-        Sign::Dot(_) => close_kind(state, TypeTree::kind(binders, word)),
-        _ => Err(Stop::Refused),
+    match terminal {
+        Terminal::Dot(_) => close_kind(state, TypeTree::kind(binders, word)),
+        _ => Err(StepFault::Refused),
     }
 }

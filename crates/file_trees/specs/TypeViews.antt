@@ -25,6 +25,6 @@ IsLast (Fam span arguments) bindings = Unit {0}
 IsLast (Star span) bindings = Unit {0}
 IsLast (Group inner) bindings = bindings ≢ []
 
-abbrev pub has_none : List Binding → Bool
-has_none [] = true
-has_none (binding ∷ bindings) = false
+abbrev pub has_no_part : List Binding → Bool
+has_no_part [] = true
+has_no_part (binding ∷ bindings) = false

@@ -2,7 +2,7 @@
 
 ghost use Rattle.std.specs.Prelude.{◌≡◌, ◌++◌, [], ◌∷◌, IfOk};
 ghost use Rattle.file_trees.specs.Trees.{bind, family, star};
-ghost use Rattle.file_trees.specs.TypeViews.{binding_of, bindings_of, has_none, last_of, IsLast};
+ghost use Rattle.file_trees.specs.TypeViews.{binding_of, bindings_of, has_no_part, last_of, IsLast};
 
 use crate::span::Span;
 use crate::term_tree::TermTrees;
@@ -99,7 +99,7 @@ impl Binders {
 
     /// Whether there is none.
     pub fn is_empty(&self) -> bool
-        ensures { result ≡ has_none self.now }
+        ensures { result ≡ has_no_part self.now }
     {
         match self.items.first() {
             Some(_) => false,

@@ -90,9 +90,9 @@ module _ (text : List ℕ) (so_far : List Token) (place : ℕ) (h : Cutting text
       record {
         boundary = found.end_place;
         cuts = λ tokens cut. subst (Cut 0 (chars text)) (sym (append_assoc so_far (next ∷ []) tokens)) (h.cuts (next ∷ tokens)
-            (token place found.front rest (from_place text place) next tokens found.text_is found.longest n.short n.start_is found.end_is cut));
+            (token place found.prefix rest (from_place text place) next tokens found.text_is found.longest n.short n.start_is found.end_is cut));
         wrongs = λ why wrong. h.wrongs why
-            (after_token place next.mark found.front rest (from_place text place) why found.text_is found.longest n.short
+            (after_token place next.mark found.prefix rest (from_place text place) why found.text_is found.longest n.short
             (subst (λ n. Wrong n rest why) found.end_is wrong));
         within = All-push (IsWithin (length text)) so_far next h.within (next_within next n);
       }
@@ -130,38 +130,38 @@ module _ (text : List ℕ) (place : ℕ) (at : IsPlace text place) where
       let here = Reads-some text place at some in
       no_token_here here.character (place + len_utf8 here.character) here.reads no_separator no_percent none
 
-  pub Wrong-too_long : (mark : Mark) (end : ℕ) (found : IsTokenAt text place mark end) → (IsShort mark found.front → ⊥) →
+  pub Wrong-too_long : (mark : Mark) (end : ℕ) (found : IsTokenAt text place mark end) → (IsShort mark found.prefix → ⊥) →
       Wrong place (from_place text place) (long_name place)
   Wrong-too_long mark end found long =
-      too_long place mark found.front (from_place text end) (from_place text place) found.text_is found.longest long
+      too_long place mark found.prefix (from_place text end) (from_place text place) found.text_is found.longest long
 
--- how many bytes a token has, by its front and by its places
-pub IsShort-from_size : (mark : Mark) (front : List ℕ) (size : ℕ) → size ≡ width front → IsShortSize mark size → IsShort mark front
-IsShort-from_size Word front size e h = omega arith
-IsShort-from_size Var front size e h = omega arith
-IsShort-from_size Number front size e h = tt
-IsShort-from_size Colon front size e h = tt
-IsShort-from_size Dot front size e h = tt
-IsShort-from_size Equals front size e h = tt
-IsShort-from_size Arrow front size e h = tt
-IsShort-from_size LParen front size e h = tt
-IsShort-from_size RParen front size e h = tt
-IsShort-from_size LBrace front size e h = tt
-IsShort-from_size RBrace front size e h = tt
-IsShort-from_size LBracket front size e h = tt
-IsShort-from_size RBracket front size e h = tt
+-- how many bytes a token has, by its prefix and by its places
+pub IsShort-from_size : (mark : Mark) (prefix : List ℕ) (size : ℕ) → size ≡ width prefix → IsShortSize mark size → IsShort mark prefix
+IsShort-from_size Word prefix size e h = omega arith
+IsShort-from_size Var prefix size e h = omega arith
+IsShort-from_size Number prefix size e h = tt
+IsShort-from_size Colon prefix size e h = tt
+IsShort-from_size Dot prefix size e h = tt
+IsShort-from_size Equals prefix size e h = tt
+IsShort-from_size Arrow prefix size e h = tt
+IsShort-from_size LParen prefix size e h = tt
+IsShort-from_size RParen prefix size e h = tt
+IsShort-from_size LBrace prefix size e h = tt
+IsShort-from_size RBrace prefix size e h = tt
+IsShort-from_size LBracket prefix size e h = tt
+IsShort-from_size RBracket prefix size e h = tt
 
-pub IsShortSize-from_front : (mark : Mark) (front : List ℕ) (size : ℕ) → size ≡ width front → IsShort mark front → IsShortSize mark size
-IsShortSize-from_front Word front size e h = omega arith
-IsShortSize-from_front Var front size e h = omega arith
-IsShortSize-from_front Number front size e h = tt
-IsShortSize-from_front Colon front size e h = tt
-IsShortSize-from_front Dot front size e h = tt
-IsShortSize-from_front Equals front size e h = tt
-IsShortSize-from_front Arrow front size e h = tt
-IsShortSize-from_front LParen front size e h = tt
-IsShortSize-from_front RParen front size e h = tt
-IsShortSize-from_front LBrace front size e h = tt
-IsShortSize-from_front RBrace front size e h = tt
-IsShortSize-from_front LBracket front size e h = tt
-IsShortSize-from_front RBracket front size e h = tt
+pub IsShortSize-from_prefix : (mark : Mark) (prefix : List ℕ) (size : ℕ) → size ≡ width prefix → IsShort mark prefix → IsShortSize mark size
+IsShortSize-from_prefix Word prefix size e h = omega arith
+IsShortSize-from_prefix Var prefix size e h = omega arith
+IsShortSize-from_prefix Number prefix size e h = tt
+IsShortSize-from_prefix Colon prefix size e h = tt
+IsShortSize-from_prefix Dot prefix size e h = tt
+IsShortSize-from_prefix Equals prefix size e h = tt
+IsShortSize-from_prefix Arrow prefix size e h = tt
+IsShortSize-from_prefix LParen prefix size e h = tt
+IsShortSize-from_prefix RParen prefix size e h = tt
+IsShortSize-from_prefix LBrace prefix size e h = tt
+IsShortSize-from_prefix RBrace prefix size e h = tt
+IsShortSize-from_prefix LBracket prefix size e h = tt
+IsShortSize-from_prefix RBracket prefix size e h = tt

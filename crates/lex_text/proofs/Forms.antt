@@ -11,7 +11,7 @@ use Rattle.lex_text.specs.declared.mark.Mark.{Mark}
 use Rattle.lex_text.specs.declared.mark.Mark.TheVariants.{Word, Var, Number, Colon, Dot, Equals, Arrow, LParen, RParen, LBrace, RBrace, LBracket, RBracket}
 use Rattle.lex_text.specs.Characters.{IsSeparator, IsDigit}
 use Rattle.lex_text.specs.Tokens.{Forms, IsNumber}
-use Rattle.lex_text.proofs.Fronts.{head_is}
+use Rattle.lex_text.proofs.Prefixes.{head_is}
 
 -- the kind of a token that begins with a minus
 abbrev pub mark_after_minus : List ℕ → Mark
@@ -61,13 +61,13 @@ pub mark_of-minus : (c d : ℕ) (cs : List ℕ) → c ≡ 45 → IsDigit d → m
 unfolding unicode_ident
 mark_of-minus c d cs e h = ap (λ x. mark_of (x ∷ d ∷ cs)) e ∙ ap (λ b. cond b Arrow Number) (no_arrow d h)
 
-mark_of-Number : (front : List ℕ) → IsNumber front → mark_of front ≡ Number
+mark_of-Number : (prefix : List ℕ) → IsNumber prefix → mark_of prefix ≡ Number
 mark_of-Number [] h = absurd h
 mark_of-Number (c ∷ cs) (inl h) = mark_of-digit c cs h.0
 mark_of-Number (c ∷ []) (inr h) = absurd h.1
 mark_of-Number (c ∷ d ∷ cs) (inr h) = mark_of-minus c d cs h.0 h.1.0
 
-pub mark_of-Forms : (mark : Mark) (front : List ℕ) → Forms mark front → mark_of front ≡ mark
+pub mark_of-Forms : (mark : Mark) (prefix : List ℕ) → Forms mark prefix → mark_of prefix ≡ mark
 unfolding unicode_ident
 mark_of-Forms Word [] h = absurd h
 mark_of-Forms Word (c ∷ cs) h = ap (λ b. cond b Word (mark_of_other c cs)) h.0
@@ -86,8 +86,8 @@ mark_of-Forms LBracket cs h = ap mark_of h
 mark_of-Forms RBracket cs h = ap mark_of h
 
 -- a text has one kind at most
-pub Forms-mark_unique : (mark other : Mark) (front : List ℕ) → Forms mark front → Forms other front → mark ≡ other
-Forms-mark_unique mark other front h k = sym (mark_of-Forms mark front h) ∙ mark_of-Forms other front k
+pub Forms-mark_unique : (mark other : Mark) (prefix : List ℕ) → Forms mark prefix → Forms other prefix → mark ≡ other
+Forms-mark_unique mark other prefix h k = sym (mark_of-Forms mark prefix h) ∙ mark_of-Forms other prefix k
 
 -- the characters with which a token may begin that is no word
 abbrev pub begins_other : ℕ → Bool

@@ -16,7 +16,7 @@ module _ (text : List ℕ) (start c next : ℕ) (at : IsPlace text start) (first
   token_run : (P : ℕ → Type 0) (mark : Mark) (end : ℕ) (run : Passes P text next end) →
       IsLongest mark (c ∷ run.passed) (from_place text end) → IsTokenAt text start mark end
   token_run P mark end run longest = record {
-    front = c ∷ run.passed;
+    prefix = c ∷ run.passed;
     text_is = Reads-text text start c next at first ∙ ap (λ cs. c ∷ cs) run.text_is;
     longest = longest;
     end_is = let a = first.next_is in let b = run.end_is in let w = width-cons c run.passed in omega arith;
@@ -26,7 +26,7 @@ module _ (text : List ℕ) (start c next : ℕ) (at : IsPlace text start) (first
 
   pub IsTokenAt-sign : (mark : Mark) → IsSign mark c → IsTokenAt text start mark next
   IsTokenAt-sign mark sign = record {
-    front = c ∷ [];
+    prefix = c ∷ [];
     text_is = Reads-text text start c next at first;
     longest = IsLongest-sign mark c (from_place text next) sign;
     end_is = first.next_is ∙ ap (λ n. start + n) (sym (width_one c));
@@ -66,7 +66,7 @@ pub IsTokenAt-digits : (text : List ℕ) (start c next end : ℕ) → IsPlace te
 IsTokenAt-digits text start c next end at first digit run stops =
     let digits = run_digits text start c next end at first digit run stops in
     record {
-      front = run.passed;
+      prefix = run.passed;
       text_is = run.text_is;
       longest = IsLongest-digits run.passed (from_place text end) digits stops;
       end_is = run.end_is;
@@ -86,7 +86,7 @@ module _ (text : List ℕ) (start place : ℕ) (at : IsPlace text start) (minus 
       let one = len_utf8_ascii d (omega arith) in
       let last = subst (λ n. Reads text place d (place + n)) one second in
       record {
-        front = 45 ∷ d ∷ [];
+        prefix = 45 ∷ d ∷ [];
         text_is = Reads-text text start 45 place at minus ∙ ap (λ cs. 45 ∷ cs) (Reads-text text place d (place + 1) minus.next_place last);
         longest = IsLongest-arrow 45 d (from_place text (place + 1)) refl is;
         end_is = let a = minus.next_is in let b = last.next_is in let w = width-cons 45 (d ∷ []) in let v = width_one d in omega arith;

@@ -1,4 +1,4 @@
-pub mod Fronts
+pub mod Prefixes
 pub mod Forms
 pub mod Unique
 pub mod Order

@@ -1,4 +1,4 @@
--- The longest token at the front of a text, for each kind.
+-- The longest token at the prefix of a text, for each kind.
 use Rattle.std.proofs.Common.{◌≡◌, ◌≢◌, ℕ, ◌⊎◌, inl, inr, List, [], ◌∷◌, ◌++◌, Bool, cond, true, false, refl, sym, ap, ◌∙◌, subst, arith}
 use Rattle.std.specs.Prelude.{◌==◌}
 use Rattle.std.specs.List.{AllByRecursion}
@@ -9,7 +9,7 @@ use Rattle.lex_text.specs.declared.mark.Mark.TheVariants.{Word, Var, Number, Col
 use Rattle.lex_text.specs.Characters.{MayStart, MayContinue, IsDigit}
 use Rattle.lex_text.specs.Tokens.{Forms, AreDigits, IsNumber, IsLongest}
 use Rattle.lex_text.specs.Reading.{StopsBefore, IsSign, BeginNoToken}
-use Rattle.lex_text.proofs.Fronts.{head_is, tail_is}
+use Rattle.lex_text.proofs.Prefixes.{head_is, tail_is}
 use Rattle.lex_text.proofs.Forms.{mark_of, mark_after_minus, mark_of_other, mark_of-Forms, mark_of-digit, mark_of-minus, Forms-some, AllByRecursion-right}
 
 -- a run that goes on past its end does not
@@ -19,12 +19,12 @@ nothing_after P [] (c ∷ more) left stops e all = cc
 nothing_after P (d ∷ rest) (c ∷ more) left stops e all = absurd (stops (subst P (sym (head_is e)) all.0))
 
 -- the longest one of the kind that the first two characters tell is the longest one
-longest_by_mark : (mark : Mark) (front rest : List ℕ) → Forms mark front → ((more : List ℕ) → mark_of (front ++ more) ≡ mark) →
-    ((more left : List ℕ) → rest ≡ more ++ left → Forms mark (front ++ more) → more ≡ []) → IsLongest mark front rest
-longest_by_mark mark front rest forms tells longest = record {
+longest_by_mark : (mark : Mark) (prefix rest : List ℕ) → Forms mark prefix → ((more : List ℕ) → mark_of (prefix ++ more) ≡ mark) →
+    ((more left : List ℕ) → rest ≡ more ++ left → Forms mark (prefix ++ more) → more ≡ []) → IsLongest mark prefix rest
+longest_by_mark mark prefix rest forms tells longest = record {
   forms = forms;
   longest = λ other more left e h.
-      longest more left e (subst (λ m. Forms m (front ++ more)) (sym (mark_of-Forms other (front ++ more) h) ∙ tells more) h);
+      longest more left e (subst (λ m. Forms m (prefix ++ more)) (sym (mark_of-Forms other (prefix ++ more) h) ∙ tells more) h);
 }
 
 mark_of-word : (c : ℕ) (cs : List ℕ) → MayStart c → mark_of (c ∷ cs) ≡ Word
@@ -176,12 +176,12 @@ none_begins mark c cs none h =
       | inr (inr (inr (inr sign))) ↦ none.no_sign mark sign
     ]
 
-none_in_front : (c : ℕ) (rest : List ℕ) → BeginsNone c → (mark : Mark) (front left : List ℕ) → Forms mark front → front ++ left ≡ c ∷ rest → ⊥
-none_in_front c rest none mark [] left h e = Forms-some mark h
-none_in_front c rest none mark (d ∷ front) left h e = none_begins mark d front (subst BeginsNone (sym (head_is e)) none) h
+none_in_prefix : (c : ℕ) (rest : List ℕ) → BeginsNone c → (mark : Mark) (prefix left : List ℕ) → Forms mark prefix → prefix ++ left ≡ c ∷ rest → ⊥
+none_in_prefix c rest none mark [] left h e = Forms-some mark h
+none_in_prefix c rest none mark (d ∷ prefix) left h e = none_begins mark d prefix (subst BeginsNone (sym (head_is e)) none) h
 
 pub BeginNoToken-character : (c : ℕ) (rest : List ℕ) → BeginsNone c → BeginNoToken (c ∷ rest)
-BeginNoToken-character c rest none = none_in_front c rest none
+BeginNoToken-character c rest none = none_in_prefix c rest none
 
 minus_number : (ds left rest : List ℕ) → IsNumber (45 ∷ ds) → ds ++ left ≡ rest → StopsBefore FollowsMinus rest → ⊥
 minus_number ds left rest (inl h) e stops = no_minus_digit 45 h.0 refl
@@ -218,10 +218,10 @@ minus_no_token mark cs left rest h e stops =
       | inr is ↦ minus_arrow cs left rest (subst (λ m. Forms m (45 ∷ cs)) is h) e stops
     ]
 
-minus_in_front : (rest : List ℕ) → StopsBefore FollowsMinus rest → (mark : Mark) (front left : List ℕ) → Forms mark front → front ++ left ≡ 45 ∷ rest → ⊥
-minus_in_front rest stops mark [] left h e = Forms-some mark h
-minus_in_front rest stops mark (d ∷ front) left h e =
-    minus_no_token mark front left rest (subst (λ x. Forms mark (x ∷ front)) (head_is e) h) (tail_is e) stops
+minus_in_prefix : (rest : List ℕ) → StopsBefore FollowsMinus rest → (mark : Mark) (prefix left : List ℕ) → Forms mark prefix → prefix ++ left ≡ 45 ∷ rest → ⊥
+minus_in_prefix rest stops mark [] left h e = Forms-some mark h
+minus_in_prefix rest stops mark (d ∷ prefix) left h e =
+    minus_no_token mark prefix left rest (subst (λ x. Forms mark (x ∷ prefix)) (head_is e) h) (tail_is e) stops
 
 pub BeginNoToken-minus : (rest : List ℕ) → StopsBefore FollowsMinus rest → BeginNoToken (45 ∷ rest)
-BeginNoToken-minus rest stops = minus_in_front rest stops
+BeginNoToken-minus rest stops = minus_in_prefix rest stops

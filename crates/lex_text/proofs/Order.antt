@@ -40,7 +40,7 @@ comment_width c inside rest text e text_is =
     let both = ap width text_is ∙ width-append inside rest in
     omega arith
 
-some_width : (mark : Mark) (front : List ℕ) → Forms mark front → 0 < width front
+some_width : (mark : Mark) (prefix : List ℕ) → Forms mark prefix → 0 < width prefix
 some_width mark [] h = absurd (Forms-some mark h)
 some_width mark (c ∷ cs) h = let w = width-cons c cs in let bounds = len_utf8_bounds c in omega arith
 
@@ -57,9 +57,9 @@ Cut-within (comment place c inside rest text tokens e text_is before cut) =
     let size = comment_width c inside rest text e text_is in
     end_at place (place + 1 + width inside + width rest) (place + width (c ∷ text)) tokens (omega arith)
     (StandInOrder-from (place + 1 + width inside) place (place + 1 + width inside + width rest) tokens (omega arith) (Cut-within cut))
-Cut-within (token place front rest text next tokens e first short s t cut) =
-    let some = some_width next.mark front first.forms in
-    let size = ap width e ∙ width-append front rest in (
+Cut-within (token place prefix rest text next tokens e first short s t cut) =
+    let some = some_width next.mark prefix first.forms in
+    let size = ap width e ∙ width-append prefix rest in (
       omega arith,
       omega arith,
       end_at next.end (next.end + width rest) (place + width text) tokens (omega arith) (Cut-within cut),

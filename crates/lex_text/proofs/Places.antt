@@ -53,7 +53,7 @@ Reads-from_spelled text rest place c h e =
 ascii_spelled : (text : List ℕ) (place : ℕ) → place < length text → get_or text place 0 < 128 →
     drop place text ≡ encode_utf8 (get_or text place 0) ++ drop (place + 1) text
 ascii_spelled text place h ascii =
-    drop_more text place 0 h ∙ ap (λ front. front ++ drop (place + 1) text) (sym (encode_ascii (get_or text place 0) ascii))
+    drop_more text place 0 h ∙ ap (λ prefix. prefix ++ drop (place + 1) text) (sym (encode_ascii (get_or text place 0) ascii))
 
 pub Reads-ascii : (text : List ℕ) (place : ℕ) → IsPlace text place → place < length text → get_or text place 0 < 128 →
     Reads text place (get_or text place 0) (place + 1)

@@ -27,9 +27,9 @@ TokensOf-from_cut bytes tokens u cut = (chars bytes, Spells-chars bytes u, cut)
 pub WrongText-from_wrong : (bytes : List ℕ) (why : Lexical) → IsUtf8 bytes → Wrong 0 (chars bytes) why → WrongText bytes why
 WrongText-from_wrong bytes why u wrong = (chars bytes, Spells-chars bytes u, wrong)
 
-longer_front : (bytes rest : List ℕ) (n c : ℕ) → n < length bytes → encode_utf8 c ++ rest ≡ drop n bytes →
+longer_prefix : (bytes rest : List ℕ) (n c : ℕ) → n < length bytes → encode_utf8 c ++ rest ≡ drop n bytes →
     take (n + len_utf8 c) bytes ≡ take n bytes ++ encode_utf8 c
-longer_front bytes rest n c short e =
+longer_prefix bytes rest n c short e =
     let whole : bytes ≡ (take n bytes ++ encode_utf8 c) ++ rest =
     sym (take-append-drop n bytes) ∙ (ap (λ r. take n bytes ++ r) (sym e) ∙ sym (append_assoc (take n bytes) (encode_utf8 c) rest)) in
     let size : length (take n bytes ++ encode_utf8 c) ≡ n + len_utf8 c =
@@ -39,15 +39,15 @@ longer_front bytes rest n c short e =
 none_at_first_fault : (bytes : List ℕ) (n : ℕ) → IsValidUpTo bytes n → (c : ℕ) (rest : List ℕ) → IsScalar c → encode_utf8 c ++ rest ≢ drop n bytes
 none_at_first_fault bytes n h c rest scalar e =
     h.longest (n + len_utf8 c) (let bounds = len_utf8_bounds c in omega arith)
-    (subst IsUtf8 (sym (longer_front bytes rest n c h.short e)) (IsUtf8-append (take n bytes) (encode_utf8 c) h.front (IsUtf8-encode c scalar)))
+    (subst IsUtf8 (sym (longer_prefix bytes rest n c h.short e)) (IsUtf8-append (take n bytes) (encode_utf8 c) h.prefix (IsUtf8-encode c scalar)))
 
 pub NotUtf8At-from_valid : (bytes : List ℕ) (n : ℕ) → IsValidUpTo bytes n → NotUtf8At bytes n
 NotUtf8At-from_valid bytes n h =
-    let front = h.front.0 in
-    let spelled = h.front.1.1 in (
-      front,
+    let prefix = h.prefix.0 in
+    let spelled = h.prefix.1.1 in (
+      prefix,
       drop n bytes,
-      scalars_all front h.front.1.0,
+      scalars_all prefix h.prefix.1.0,
       ap (λ f. f ++ drop n bytes) spelled ∙ take-append-drop n bytes,
       ap length spelled ∙ length-take-le n bytes (let short = h.short in omega arith),
       record {

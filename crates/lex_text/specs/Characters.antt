@@ -20,8 +20,8 @@ pub record NoCharacter (bytes : List ℕ) : Type 0 where
 
 -- The first byte that begins no valid character stands at this place.
 abbrev pub NotUtf8At : List ℕ → ℕ → Type 0
-NotUtf8At bytes place = (front : List ℕ) × (rest : List ℕ) × AllByRecursion IsScalar front
-    × (encode_utf8_all front ++ rest ≡ bytes) × (width front ≡ place) × NoCharacter rest
+NotUtf8At bytes place = (prefix : List ℕ) × (rest : List ℕ) × AllByRecursion IsScalar prefix
+    × (encode_utf8_all prefix ++ rest ≡ bytes) × (width prefix ≡ place) × NoCharacter rest
 
 -- space, tab, carriage return and line feed
 abbrev pub IsSeparator : ℕ → Type 0

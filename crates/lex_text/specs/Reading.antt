@@ -4,6 +4,7 @@ use Rattle.std.specs.Prelude.{◌≡◌, ◌≢◌, ℕ, ◌+◌, ◌<◌, ◌�
 use Rattle.std.specs.Char.{len_utf8}
 use Rattle.std.specs.List.{AllByRecursion}
 use Rattle.std.specs.Str.{chars, IsUtf8}
+use Rattle.basics.specs.Limits.{longest_name}
 use Rattle.lex_text.specs.declared.mark.Mark.{Mark}
 use Rattle.lex_text.specs.declared.mark.Mark.TheVariants.{Word, Var, Number, Colon, Dot, Equals, Arrow, LParen, RParen, LBrace, RBrace, LBracket, RBracket}
 use Rattle.lex_text.specs.declared.run.Run.{Run}
@@ -50,16 +51,16 @@ Belongs Comment c = c ≢ 10
 
 -- The longest token at the place has this kind, and ends here.
 pub record IsTokenAt (text : List ℕ) (place : ℕ) (mark : Mark) (end : ℕ) : Type 0 where
-  pub front : List ℕ
-  pub text_is : from_place text place ≡ front ++ from_place text end
-  pub longest : IsLongest mark front (from_place text end)
-  pub end_is : end ≡ place + width front
+  pub prefix : List ℕ
+  pub text_is : from_place text place ≡ prefix ++ from_place text end
+  pub longest : IsLongest mark prefix (from_place text end)
+  pub end_is : end ≡ place + width prefix
   pub end_place : IsPlace text end
   pub some : place < end
 
 -- No token begins with the characters.
 abbrev pub BeginNoToken : List ℕ → Type 0
-BeginNoToken text = (mark : Mark) (front left : List ℕ) → Forms mark front → front ++ left ≢ text
+BeginNoToken text = (mark : Mark) (prefix left : List ℕ) → Forms mark prefix → prefix ++ left ≢ text
 
 -- a token of one character, by its kind
 abbrev pub IsSign : Mark → ℕ → Type 0
@@ -81,7 +82,7 @@ IsSign Arrow c = ⊥
 pub record IsNext (text : List ℕ) (place : ℕ) (token : Token) : Type 0 where
   pub start_is : token.start ≡ place
   pub found : IsTokenAt text place token.mark token.end
-  pub short : IsShort token.mark found.front
+  pub short : IsShort token.mark found.prefix
 
 -- The fault is the first thing wrong with the text from the place on.
 abbrev pub IsFaultAt : List ℕ → ℕ → LexFault → Type 0
@@ -92,6 +93,6 @@ IsFaultAt text place NoMemory = ⊤
 
 -- A token of this kind may have so many bytes.
 abbrev pub IsShortSize : Mark → ℕ → Type 0
-IsShortSize Word size = size ≤ 255
-IsShortSize Var size = size ≤ 255
+IsShortSize Word size = size ≤ longest_name
+IsShortSize Var size = size ≤ longest_name
 IsShortSize _ size = ⊤

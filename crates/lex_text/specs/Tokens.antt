@@ -1,6 +1,7 @@
 -- The tokens of a text: the one way to cut it, each token as long as it can be.
 use Rattle.std.specs.Prelude.{◌≡◌, ◌≢◌, ℕ, ◌+◌, ◌<◌, ◌≤◌, ◌⊎◌, List, [], ◌∷◌, ◌++◌, codes, slice_range}
 use Rattle.std.specs.List.{AllByRecursion}
+use Rattle.basics.specs.Limits.{longest_name}
 use Rattle.lex_text.specs.declared.mark.Mark.{Mark}
 use Rattle.lex_text.specs.declared.mark.Mark.TheVariants.{Word, Var, Number, Colon, Dot, Equals, Arrow, LParen, RParen, LBrace, RBrace, LBracket, RBracket}
 use Rattle.lex_text.specs.declared.token.Token.{Token}
@@ -42,16 +43,16 @@ Forms RBrace cs = cs ≡ codes "}"
 Forms LBracket cs = cs ≡ codes "["
 Forms RBracket cs = cs ≡ codes "]"
 
--- The front of a text is a token of this kind, and no longer front of it is a token of any kind.
-pub record IsLongest (mark : Mark) (front rest : List ℕ) : Type 0 where
-  pub forms : Forms mark front
-  pub longest : (other : Mark) (more left : List ℕ) → rest ≡ more ++ left → Forms other (front ++ more) → more ≡ []
+-- The prefix of a text is a token of this kind, and no longer prefix of it is a token of any kind.
+pub record IsLongest (mark : Mark) (prefix rest : List ℕ) : Type 0 where
+  pub forms : Forms mark prefix
+  pub longest : (other : Mark) (more left : List ℕ) → rest ≡ more ++ left → Forms other (prefix ++ more) → more ≡ []
 
 -- A word or a variable has at most 255 bytes.
 abbrev pub IsShort : Mark → List ℕ → Type 0
-IsShort Word front = width front ≤ 255
-IsShort Var front = width front ≤ 255
-IsShort _ front = Unit {0}
+IsShort Word prefix = width prefix ≤ longest_name
+IsShort Var prefix = width prefix ≤ longest_name
+IsShort _ prefix = Unit {0}
 
 -- A comment goes from its percent sign up to the next line feed, or to the end.
 abbrev pub IsCommentBefore : List ℕ → List ℕ → Type 0
@@ -67,9 +68,9 @@ pub data Cut : ℕ → List ℕ → List Token → Type 0 where
   comment : (place c : ℕ) (inside rest text : List ℕ) (tokens : List Token) → c ≡ 37 → text ≡ inside ++ rest →
       IsCommentBefore inside rest → Cut (place + 1 + width inside) rest tokens →
       Cut place (c ∷ text) tokens
-  token : (place : ℕ) (front rest text : List ℕ) (next : Token) (tokens : List Token) → text ≡ front ++ rest →
-      IsLongest next.mark front rest → IsShort next.mark front →
-      next.start ≡ place → next.end ≡ place + width front → Cut next.end rest tokens →
+  token : (place : ℕ) (prefix rest text : List ℕ) (next : Token) (tokens : List Token) → text ≡ prefix ++ rest →
+      IsLongest next.mark prefix rest → IsShort next.mark prefix →
+      next.start ≡ place → next.end ≡ place + width prefix → Cut next.end rest tokens →
       Cut place text (next ∷ tokens)
 
 -- Why characters have no tokens.
@@ -85,15 +86,15 @@ pub data Wrong : ℕ → List ℕ → Lexical → Type 0 where
   after_comment : (place c : ℕ) (inside rest text : List ℕ) (why : Lexical) → c ≡ 37 → text ≡ inside ++ rest →
       IsCommentBefore inside rest → Wrong (place + 1 + width inside) rest why →
       Wrong place (c ∷ text) why
-  after_token : (place : ℕ) (mark : Mark) (front rest text : List ℕ) (why : Lexical) → text ≡ front ++ rest →
-      IsLongest mark front rest → IsShort mark front → Wrong (place + width front) rest why →
+  after_token : (place : ℕ) (mark : Mark) (prefix rest text : List ℕ) (why : Lexical) → text ≡ prefix ++ rest →
+      IsLongest mark prefix rest → IsShort mark prefix → Wrong (place + width prefix) rest why →
       Wrong place text why
   -- a character that is no separator and begins neither a comment nor a token
   no_token : (place c : ℕ) (rest : List ℕ) → (IsSeparator c → ⊥) → c ≢ 37 →
-      ((mark : Mark) (front left : List ℕ) → Forms mark front → front ++ left ≢ c ∷ rest) →
+      ((mark : Mark) (prefix left : List ℕ) → Forms mark prefix → prefix ++ left ≢ c ∷ rest) →
       Wrong place (c ∷ rest) (bad_character place)
-  too_long : (place : ℕ) (mark : Mark) (front rest text : List ℕ) → text ≡ front ++ rest →
-      IsLongest mark front rest → (IsShort mark front → ⊥) →
+  too_long : (place : ℕ) (mark : Mark) (prefix rest text : List ℕ) → text ≡ prefix ++ rest →
+      IsLongest mark prefix rest → (IsShort mark prefix → ⊥) →
       Wrong place text (long_name place)
 
 -- The tokens of a text, by its bytes.

@@ -8,8 +8,6 @@ mod lexeme;
 pub mod mark;
 mod reading;
 mod run;
-#[cfg(test)]
-mod tests;
 pub mod token;
 pub mod token_list;
 pub mod tokens;

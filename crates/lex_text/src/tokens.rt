@@ -6,6 +6,7 @@ ghost use Rattle.lex_text.specs.Characters.{NotUtf8At, IsSeparator};
 ghost use Rattle.lex_text.specs.Tokens.{TokensOf, WrongText, Cut, bad_character, long_name, IsWithin};
 ghost use Rattle.lex_text.specs.Reading.{IsPlace, IsNext, IsFaultAt, IsShortSize};
 
+use basics::limits::LONGEST_NAME;
 use crate::lex_fault::LexFault;
 use crate::lexeme::lexeme_at;
 use crate::mark::Mark;
@@ -15,9 +16,6 @@ use crate::token::Token;
 use crate::token_list::{TokenList, Tokens};
 use std::alloc::Global;
 use std::str;
-
-/// The most bytes that a word or a variable may have.
-const LONGEST_NAME: usize = 255;
 
 /// Whether the byte is a space, a tab, a carriage return or a line feed.
 fn is_separator(byte: u8) -> bool

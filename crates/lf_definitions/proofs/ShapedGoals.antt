@@ -134,21 +134,21 @@ shapes_of-typing_in sig goals ctx =
 pub ShapedSignature-FormedSignature : (sig : LfSignature) → FormedSignature sig → ShapedSignature sig
 ShapedSignature-FormedSignature sig formed = let all = AllFormed formed in (kinds_shaped sig all, types_shaped sig all)
   where
-    kinds_shaped : (front : LfSignature) → All (FormedEntry sig) front → All (ShapedContextIn sig [] []) (family_kinds front)
+    kinds_shaped : (prefix : LfSignature) → All (FormedEntry sig) prefix → All (ShapedContextIn sig [] []) (family_kinds prefix)
     kinds_shaped [] all = All-nil (ShapedContextIn sig [] [])
-    kinds_shaped (family_entry name kind ∷ front) all =
-        All-cons (ShapedContextIn sig [] []) kind (family_kinds front)
-        (subst (λ Δ. ShapedContext (kind_shapes_in sig) Δ kind) (shapes_of-typing_in sig [] []) (ShapedContext-FormedContext (All-head (FormedEntry sig) (family_entry name kind) front all)))
-        (kinds_shaped front (All-tail (FormedEntry sig) (family_entry name kind) front all))
-    kinds_shaped (constant_entry name type ∷ front) all = kinds_shaped front (All-tail (FormedEntry sig) (constant_entry name type) front all)
+    kinds_shaped (family_entry name kind ∷ prefix) all =
+        All-cons (ShapedContextIn sig [] []) kind (family_kinds prefix)
+        (subst (λ Δ. ShapedContext (kind_shapes_in sig) Δ kind) (shapes_of-typing_in sig [] []) (ShapedContext-FormedContext (All-head (FormedEntry sig) (family_entry name kind) prefix all)))
+        (kinds_shaped prefix (All-tail (FormedEntry sig) (family_entry name kind) prefix all))
+    kinds_shaped (constant_entry name type ∷ prefix) all = kinds_shaped prefix (All-tail (FormedEntry sig) (constant_entry name type) prefix all)
 
-    types_shaped : (front : LfSignature) → All (FormedEntry sig) front → All (ShapedTypeIn sig [] []) (constant_types front)
+    types_shaped : (prefix : LfSignature) → All (FormedEntry sig) prefix → All (ShapedTypeIn sig [] []) (constant_types prefix)
     types_shaped [] all = All-nil (ShapedTypeIn sig [] [])
-    types_shaped (family_entry name kind ∷ front) all = types_shaped front (All-tail (FormedEntry sig) (family_entry name kind) front all)
-    types_shaped (constant_entry name type ∷ front) all =
-        All-cons (ShapedTypeIn sig [] []) type (constant_types front)
-        (subst (λ Δ. ShapedType (kind_shapes_in sig) Δ type) (shapes_of-typing_in sig [] []) (ShapedType-Formed (All-head (FormedEntry sig) (constant_entry name type) front all)))
-        (types_shaped front (All-tail (FormedEntry sig) (constant_entry name type) front all))
+    types_shaped (family_entry name kind ∷ prefix) all = types_shaped prefix (All-tail (FormedEntry sig) (family_entry name kind) prefix all)
+    types_shaped (constant_entry name type ∷ prefix) all =
+        All-cons (ShapedTypeIn sig [] []) type (constant_types prefix)
+        (subst (λ Δ. ShapedType (kind_shapes_in sig) Δ type) (shapes_of-typing_in sig [] []) (ShapedType-Formed (All-head (FormedEntry sig) (constant_entry name type) prefix all)))
+        (types_shaped prefix (All-tail (FormedEntry sig) (constant_entry name type) prefix all))
 
 -- What is looked up is one of the list.
 All-type_at : (P : LfType → Type 0) (types : List LfType) → All P types → (k : ℕ) (a : LfType) → type_at types k ≡ Some a → P a

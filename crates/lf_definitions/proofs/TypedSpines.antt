@@ -45,6 +45,6 @@ pub length-rename_context : (ξ : Renaming) (ctx : Context) → length (rename_c
 length-rename_context ξ [] = refl
 length-rename_context ξ (a ∷ ctx) = ap suc (length-rename_context (lifted ξ) ctx)
 
-pub rename_context-append : (front more : Context) (ξ : Renaming) → rename_context ξ (front ++ more) ≡ rename_context ξ front ++ rename_context (lifted_by (length front) ξ) more
+pub rename_context-append : (prefix more : Context) (ξ : Renaming) → rename_context ξ (prefix ++ more) ≡ rename_context ξ prefix ++ rename_context (lifted_by (length prefix) ξ) more
 rename_context-append [] more ξ = refl
-rename_context-append (a ∷ front) more ξ = ap (λ rest. rename_type ξ a ∷ rest) (rename_context-append front more (lifted ξ))
+rename_context-append (a ∷ prefix) more ξ = ap (λ rest. rename_type ξ a ∷ rest) (rename_context-append prefix more (lifted ξ))

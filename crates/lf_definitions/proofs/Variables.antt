@@ -12,9 +12,9 @@ rename_type-next_by n a = rename_type-rename_type a (next_by n) next
 pub rename_type-next_by_zero : (a : LfType) → rename_type (next_by zero) a ≡ a
 rename_type-next_by_zero a = rename_type-same_head a
 
-pub with_context-append : (front more : Context) (Γ : Typing) → with_context (front ++ more) Γ ≡ with_context more (with_context front Γ)
+pub with_context-append : (prefix more : Context) (Γ : Typing) → with_context (prefix ++ more) Γ ≡ with_context more (with_context prefix Γ)
 with_context-append [] more Γ = refl
-with_context-append (a ∷ front) more Γ = with_context-append front more (with_variable a Γ)
+with_context-append (a ∷ prefix) more Γ = with_context-append prefix more (with_variable a Γ)
 
 raised_again : (n : ℕ) (o : Option LfType) → option_map (rename_type (next_by n)) (option_map raise_type o) ≡ option_map (rename_type (next_by (suc n))) o
 raised_again n None = refl

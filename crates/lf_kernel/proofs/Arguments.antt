@@ -39,19 +39,19 @@ raised ξ types = rename_context ξ (types_of types)
 raised-split : (ξ : Renaming) (types : List Ty) (i : ℕ) (ty : Ty) → i < length types → ty ≡ get_or types i ty →
     raised ξ types ≡ raised ξ (take i types) ++ rename_type (lifted_by i ξ) (type_of ty) ∷ rename_context (lifted (lifted_by i ξ)) (types_of (drop (suc i) types))
 raised-split ξ types i ty within is =
-    let front = take i types in
-    ap (raised ξ) (split_read types i ty within is) ∙ ap (rename_context ξ) (types_of-append front (ty ∷ drop (suc i) types))
-    ∙ rename_context-append (types_of front) (types_of (ty ∷ drop (suc i) types)) ξ
-    ∙ ap (λ n. raised ξ front ++ rename_type (lifted_by n ξ) (type_of ty) ∷ rename_context (lifted (lifted_by n ξ)) (types_of (drop (suc i) types)))
-    (length-types_of front ∙ length-take_within types i (omega arith))
+    let prefix = take i types in
+    ap (raised ξ) (split_read types i ty within is) ∙ ap (rename_context ξ) (types_of-append prefix (ty ∷ drop (suc i) types))
+    ∙ rename_context-append (types_of prefix) (types_of (ty ∷ drop (suc i) types)) ξ
+    ∙ ap (λ n. raised ξ prefix ++ rename_type (lifted_by n ξ) (type_of ty) ∷ rename_context (lifted (lifted_by n ξ)) (types_of (drop (suc i) types)))
+    (length-types_of prefix ∙ length-take_within types i (omega arith))
 
 raised-more : (ξ : Renaming) (types : List Ty) (i : ℕ) (ty : Ty) → i < length types → ty ≡ get_or types i ty →
     raised ξ (take (i + 1) types) ≡ raised ξ (take i types) ++ rename_type (lifted_by i ξ) (type_of ty) ∷ []
 raised-more ξ types i ty within is =
-    let front = take i types in
-    ap (raised ξ) (take_read types i ty within is) ∙ ap (rename_context ξ) (types_of-append front (ty ∷ []))
-    ∙ rename_context-append (types_of front) (types_of (ty ∷ [])) ξ
-    ∙ ap (λ n. raised ξ front ++ rename_type (lifted_by n ξ) (type_of ty) ∷ []) (length-types_of front ∙ length-take_within types i (omega arith))
+    let prefix = take i types in
+    ap (raised ξ) (take_read types i ty within is) ∙ ap (rename_context ξ) (types_of-append prefix (ty ∷ []))
+    ∙ rename_context-append (types_of prefix) (types_of (ty ∷ [])) ξ
+    ∙ ap (λ n. raised ξ prefix ++ rename_type (lifted_by n ξ) (type_of ty) ∷ []) (length-types_of prefix ∙ length-take_within types i (omega arith))
 
 -- what the arguments before this one were found to be
 abbrev pub TypedUpTo : Typing → Renaming → List Term → List Ty → ℕ → Type 0
@@ -76,12 +76,12 @@ pub argument_fails : (Γ : Typing) (ξ : Renaming) (terms : List Term) (types : 
     SubstitutedType (push_all (spine_of (take i terms)) (λ h. stays (ξ h))) (type_of ty) c → FailsTerm Γ (term_of t) c path →
     FailsSpine Γ stays (spine_of terms) (raised ξ types) first ((first + i) ∷ path)
 argument_fails Γ ξ terms types i t ty c first path within same t_is ty_is before result fails =
-    let front = take i terms in
-    let whole : joined (spine_of front) (arg (term_of t) (spine_of (drop (suc i) terms))) ≡ spine_of terms =
-    sym (ap spine_of (split_read terms i t within t_is) ∙ spine_of-joined front (t ∷ drop (suc i) terms)) in
+    let prefix = take i terms in
+    let whole : joined (spine_of prefix) (arg (term_of t) (spine_of (drop (suc i) terms))) ≡ spine_of terms =
+    sym (ap spine_of (split_read terms i t within t_is) ∙ spine_of-joined prefix (t ∷ drop (suc i) terms)) in
     subst₂ (λ ts bs. FailsSpine Γ stays ts bs first ((first + i) ∷ path)) whole (sym (raised-split ξ types i ty (omega arith) ty_is))
-    (subst (λ n. FailsSpine Γ stays (joined (spine_of front) (arg (term_of t) (spine_of (drop (suc i) terms)))) (raised ξ (take i types) ++ rename_type (lifted_by i ξ) (type_of ty) ∷ rename_context (lifted (lifted_by i ξ)) (types_of (drop (suc i) types))) first ((first + n) ∷ path))
-    (args_count-spine_of front ∙ length-take_within terms i (omega arith))
+    (subst (λ n. FailsSpine Γ stays (joined (spine_of prefix) (arg (term_of t) (spine_of (drop (suc i) terms)))) (raised ξ (take i types) ++ rename_type (lifted_by i ξ) (type_of ty) ∷ rename_context (lifted (lifted_by i ξ)) (types_of (drop (suc i) types))) first ((first + n) ∷ path))
+    (args_count-spine_of prefix ∙ length-take_within terms i (omega arith))
     (FailsSpine-at before (term_of t) (rename_type (lifted_by i ξ) (type_of ty)) c (seen_result ξ terms i (type_of ty) c (omega arith) result)
     (spine_of (drop (suc i) terms)) (rename_context (lifted (lifted_by i ξ)) (types_of (drop (suc i) types))) first path fails))
 

@@ -54,10 +54,10 @@ formed_more kinds Γ types i ty within is before p =
 pub binder_fails : (kinds : Kinds) (Γ : Typing) (types : List Ty) (i : ℕ) (ty : Ty) (path : List ℕ) → i < length types → ty ≡ get_or types i ty → FormedUpTo kinds Γ types i → FailsType kinds (with_context (types_of (take i types)) Γ) (type_of ty) path →
     FailsContextFrom kinds Γ (types_of types) 0 (i ∷ path)
 binder_fails kinds Γ types i ty path within is before p =
-    let front = take i types in
-    let here : 0 + length (types_of front) ≡ i = omega (arith, length-types_of front, length-take_within types i (omega arith)) in
+    let prefix = take i types in
+    let here : 0 + length (types_of prefix) ≡ i = omega (arith, length-types_of prefix, length-take_within types i (omega arith)) in
     subst₂ (λ ctx n. FailsContextFrom kinds Γ ctx 0 (n ∷ path))
-    (sym (ap types_of (split_read types i ty within is) ∙ types_of-append front (ty ∷ drop (suc i) types))) here
+    (sym (ap types_of (split_read types i ty within is) ∙ types_of-append prefix (ty ∷ drop (suc i) types))) here
     (FailsContext-at before (type_of ty) (types_of (drop (suc i) types)) 0 path p)
 
 -- a walk over what is under the binders is one over the type

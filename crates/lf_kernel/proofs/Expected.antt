@@ -20,7 +20,7 @@ use Rattle.lf_terms.specs.Putting.{putting, Puts, TypeShaped}
 use Rattle.lf_terms.proofs.Spines.{args_count-spine_of}
 use Rattle.lf_terms.proofs.ShapeLists.{length-simple_types_of}
 use Rattle.lf_terms.proofs.TypeLists.{length-types_of}
-use Rattle.lf_kernel.specs.Knowing.{binders_scope}
+use Rattle.lf_kernel.specs.ShapedPlaces.{binders_scope}
 use Rattle.lf_kernel.proofs.Arguments.{TypedUpTo, types_of-append, split_read}
 
 pub shapes_of-raised : (ξ : Renaming) (bs : Context) → shapes_of_types (rename_context ξ bs) ≡ shapes_of_types bs
@@ -43,9 +43,9 @@ pub prefix_shaped : (Γ : Typing) (ξ : Renaming) (terms : List Term) (types : L
 prefix_shaped Γ ξ terms types ss i is typed =
     subst (ShapedList (shapes_of Γ) (spine_of (take i terms))) (shapes_of-raised ξ (types_of (take i types)) ∙ sym (shapes_of_types-take ss types i is)) (ShapedSpine-TypedSpine typed)
 
-ShapedContext-append : (front : Context) (a : LfType) (more : Context) {kinds : ℕ → Option SimpleType} {Θ : Scope} → ShapedContext kinds Θ (front ++ a ∷ more) → ShapedType kinds (under_all (shapes_of_types front) Θ) a
+ShapedContext-append : (prefix : Context) (a : LfType) (more : Context) {kinds : ℕ → Option SimpleType} {Θ : Scope} → ShapedContext kinds Θ (prefix ++ a ∷ more) → ShapedType kinds (under_all (shapes_of_types prefix) Θ) a
 ShapedContext-append [] a more (shaped_entry p ps) = p
-ShapedContext-append (b ∷ front) a more (shaped_entry p ps) = ShapedContext-append front a more ps
+ShapedContext-append (b ∷ prefix) a more (shaped_entry p ps) = ShapedContext-append prefix a more ps
 
 -- and the binder at the place is shaped after those before it
 pub binder_shaped : (kinds : ℕ → Option SimpleType) (Θ : Scope) (types : List Ty) (ss : List Shape) (i : ℕ) (ty : Ty) → i < length types → ty ≡ get_or types i ty → simple_types_of ss ≡ shapes_of_types (types_of types) →

@@ -10,7 +10,7 @@ use Rattle.lf_definitions.specs.ShapedGoals.{ShapedTyping, ShapedContext}
 use Rattle.lf_definitions.proofs.Renaming.{same_head, lifted-same_head, rename_type-same_head}
 use Rattle.lf_definitions.proofs.ShapedGoals.{ShapedTyping-family}
 use Rattle.lf_kernel.specs.Checks.{Walks}
-use Rattle.lf_kernel.specs.Knowing.{binders_scope}
+use Rattle.lf_kernel.specs.ShapedPlaces.{binders_scope}
 use Rattle.lf_kernel.proofs.Paths.{walks_map}
 
 rename_context-same_head : (ctx : Context) → rename_context same_head ctx ≡ ctx

@@ -9,9 +9,9 @@ use Rattle.lf_definitions.proofs.Variables.{rename_type-next_by_zero, with_conte
 use Rattle.lf_terms.specs.declared.goal.Goal.{Goal}
 use Rattle.lf_terms.specs.Targets.{goal_of}
 use Rattle.lf_terms.specs.Types.{types_of}
-use Rattle.lf_kernel.specs.declared.scope.Scope.{Scope}
-use Rattle.lf_kernel.specs.declared.scope.Scope.TheVariants.{Closed, Under'}
-use Rattle.lf_kernel.specs.Scopes.{typing_under, no_heads}
+use Rattle.lf_kernel.specs.declared.local_context.LocalContext.{LocalContext}
+use Rattle.lf_kernel.specs.declared.local_context.LocalContext.TheVariants.{Closed, Under'}
+use Rattle.lf_kernel.specs.LocalContexts.{typing_under, no_heads}
 
 pub no_constant : (types : List LfType) (k : ℕ) → length types ≤ k → ◌≡◌ {A = Option LfType} None (type_at types k)
 no_constant [] k past = refl
@@ -30,19 +30,19 @@ SameVariables-with_context : (ctx : Context) (Γ Δ : Typing) → SameVariables 
 SameVariables-with_context [] Γ Δ same = same
 SameVariables-with_context (a ∷ ctx) Γ Δ same = SameVariables-with_context ctx (with_variable a Γ) (with_variable a Δ) (SameVariables-with_variable Γ Δ a same)
 
-same_variables : (scope : Scope) (types : List LfType) (goals : List LfGoal) → SameVariables (typing_under no_heads scope) (typing_under (typed_globals types goals) scope)
+same_variables : (scope : LocalContext) (types : List LfType) (goals : List LfGoal) → SameVariables (typing_under no_heads scope) (typing_under (typed_globals types goals) scope)
 same_variables Closed types goals = λ n. refl
 same_variables (Under' binders p outside) types goals =
     SameVariables-with_context (types_of binders.now) (typing_under no_heads outside) (typing_under (typed_globals types goals) outside) (same_variables outside types goals)
 
-pub typing_under-bound : (scope : Scope) (types : List LfType) (goals : List LfGoal) (n : ℕ) → typing_under no_heads scope (bound n) ≡ typing_under (typed_globals types goals) scope (bound n)
+pub typing_under-bound : (scope : LocalContext) (types : List LfType) (goals : List LfGoal) (n : ℕ) → typing_under no_heads scope (bound n) ≡ typing_under (typed_globals types goals) scope (bound n)
 typing_under-bound scope types goals n = same_variables scope types goals n
 
-pub typing_under-constant : (scope : Scope) (Γ : Typing) (c : ℕ) → typing_under Γ scope (constant c) ≡ Γ (constant c)
+pub typing_under-constant : (scope : LocalContext) (Γ : Typing) (c : ℕ) → typing_under Γ scope (constant c) ≡ Γ (constant c)
 typing_under-constant Closed Γ c = refl
 typing_under-constant (Under' binders p outside) Γ c = with_context-constant (types_of binders.now) (typing_under Γ outside) c ∙ typing_under-constant outside Γ c
 
-pub typing_under-metavariable : (scope : Scope) (Γ : Typing) (g : ℕ) → typing_under Γ scope (metavariable g) ≡ Γ (metavariable g)
+pub typing_under-metavariable : (scope : LocalContext) (Γ : Typing) (g : ℕ) → typing_under Γ scope (metavariable g) ≡ Γ (metavariable g)
 typing_under-metavariable Closed Γ g = refl
 typing_under-metavariable (Under' binders p outside) Γ g = with_context-metavariable (types_of binders.now) (typing_under Γ outside) g ∙ typing_under-metavariable outside Γ g
 

@@ -16,7 +16,7 @@ pub reverse-step : (path longer : List ℕ) (child : ℕ) → longer ≡ path ++
 reverse-step path longer child is = ap reverse is ∙ reverse-append path (child ∷ [])
 
 reverse-under : (path : List ℕ) (n : ℕ) → reverse (path ++ replicate n 0) ≡ replicate n 0 ++ reverse path
-reverse-under path n = reverse-append path (replicate n 0) ∙ ap (λ front. front ++ reverse path) (reverse-replicate n 0)
+reverse-under path n = reverse-append path (replicate n 0) ∙ ap (λ prefix. prefix ++ reverse path) (reverse-replicate n 0)
 
 -- under abstractions
 pub typed_under : (bs : Context) (Γ : Typing) (b : LfTerm) (end : LfType) → Typed (with_context bs Γ) b end → Typed Γ (lams (length bs) b) (pis bs end)

@@ -15,7 +15,7 @@ use Rattle.lf_definitions.proofs.Unrenaming.{ShapedType-unrenamed}
 use Rattle.lf_terms.specs.Putting.{putting, Puts, ArgsShaped}
 use Rattle.lf_kernel.specs.declared.head_type.HeadType.{HeadType}
 use Rattle.lf_kernel.specs.Heads.{declared_type}
-use Rattle.lf_kernel.specs.Knowing.{binders_scope}
+use Rattle.lf_kernel.specs.ShapedPlaces.{binders_scope}
 use Rattle.lf_kernel.specs.Results.{Gives}
 use Rattle.lf_kernel.proofs.Expected.{shapes_of-raised}
 

@@ -1,5 +1,6 @@
 -- What adding an entry to a signature answers, and what the signature then is.
 use Rattle.std.specs.Prelude.{◌≡◌, ℕ, ◌<◌, List, [], ◌∷◌, ◌++◌, length, Result, Ok, Err, Some}
+use Rattle.basics.specs.Limits.{most_symbols}
 use Rattle.lf_definitions.specs.Failures.{FailsType, FailsKind}
 use Rattle.lf_definitions.specs.Signatures.{LfEntry, family_entry, constant_entry, LfSignature, name_of_entry, names_of, family_kinds, constant_types, kinds_in, typing_in, FormedEntry, IsNewName}
 use Rattle.basics.specs.Places.{place_of}
@@ -18,20 +19,20 @@ FailsEntry sig (constant_entry name type) path = FailsType (kinds_in sig) (typin
 
 -- The name is new, and there is room for one more entry.
 abbrev pub HasRoom : LfSignature → List ℕ → Type 0
-HasRoom sig name = IsNewName sig name × (length sig < 65535)
+HasRoom sig name = IsNewName sig name × (length sig < most_symbols)
 
 -- An entry is added under its number where it is well formed, its name is new and there is room. Otherwise it isn't, and the signature is as it was.
-abbrev pub Adds : LfSignature → LfSignature → LfEntry → Result ℕ SigFault → Type 0
-Adds before after entry (Ok number) = HasRoom before (name_of_entry entry) × FormedEntry before entry × (number ≡ number_of before entry) × (after ≡ before ++ entry ∷ [])
-Adds before after entry (Err (Taken place)) = (place_of (names_of before) (name_of_entry entry) ≡ Some place) × (after ≡ before)
-Adds before after entry (Err Full) = IsNewName before (name_of_entry entry) × (length before ≡ 65535) × (after ≡ before)
-Adds before after entry (Err (Ill path)) = HasRoom before (name_of_entry entry) × FailsEntry before entry path × (after ≡ before)
-Adds before after entry (Err (NoMemory name)) = (name ≡ name_of_entry entry) × (after ≡ before)
+abbrev pub AddsEntry : LfSignature → LfSignature → LfEntry → Result ℕ SigFault → Type 0
+AddsEntry before after entry (Ok number) = HasRoom before (name_of_entry entry) × FormedEntry before entry × (number ≡ number_of before entry) × (after ≡ before ++ entry ∷ [])
+AddsEntry before after entry (Err (Taken place)) = (place_of (names_of before) (name_of_entry entry) ≡ Some place) × (after ≡ before)
+AddsEntry before after entry (Err Full) = IsNewName before (name_of_entry entry) × (length before ≡ most_symbols) × (after ≡ before)
+AddsEntry before after entry (Err (Ill path)) = HasRoom before (name_of_entry entry) × FailsEntry before entry path × (after ≡ before)
+AddsEntry before after entry (Err (NoMemory name)) = (name ≡ name_of_entry entry) × (after ≡ before)
 
 -- the test of the name and of the room alone
 abbrev pub HasRoomOr : LfSignature → List ℕ → Result (Unit {0}) SigFault → Type 0
 HasRoomOr sig name (Ok done) = HasRoom sig name
 HasRoomOr sig name (Err (Taken place)) = place_of (names_of sig) name ≡ Some place
-HasRoomOr sig name (Err Full) = IsNewName sig name × (length sig ≡ 65535)
+HasRoomOr sig name (Err Full) = IsNewName sig name × (length sig ≡ most_symbols)
 HasRoomOr sig name (Err (Ill path)) = ⊥
 HasRoomOr sig name (Err (NoMemory back)) = ⊥

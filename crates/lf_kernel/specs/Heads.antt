@@ -5,11 +5,11 @@ use Rattle.lf_definitions.specs.Renaming.{next_by, rename_type}
 use Rattle.lf_definitions.specs.Typing.{Typing, LfGoal, typed_globals}
 use Rattle.lf_definitions.specs.Signatures.{LfSignature, constant_types}
 use Rattle.lf_kernel.specs.declared.head_type.HeadType.{HeadType}
-use Rattle.lf_kernel.specs.declared.scope.Scope.{Scope}
-use Rattle.lf_kernel.specs.Scopes.{typing_under}
+use Rattle.lf_kernel.specs.declared.local_context.LocalContext.{LocalContext}
+use Rattle.lf_kernel.specs.LocalContexts.{typing_under}
 
 -- the types of all heads
-abbrev pub typing_at : LfSignature → List LfGoal → Scope → Typing
+abbrev pub typing_at : LfSignature → List LfGoal → LocalContext → Typing
 typing_at sig goals scope = typing_under (typed_globals (constant_types sig) goals) scope
 
 -- the type as it stands where the head is declared

@@ -1,7 +1,7 @@
-pub mod Scopes
+pub mod LocalContexts
 pub mod Checks
 pub mod Stripping
 pub mod Heads
-pub mod Knowing
+pub mod ShapedPlaces
 pub mod Results
 pub mod Adding

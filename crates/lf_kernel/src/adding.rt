@@ -2,10 +2,11 @@
 
 ghost use Rattle.std.specs.Prelude.{[], IfOk};
 ghost use Rattle.lf_definitions.specs.Signatures.{family_entry, constant_entry, kinds_in, typing_in};
-ghost use Rattle.lf_kernel.specs.Adding.{Adds, HasRoomOr};
+ghost use Rattle.lf_kernel.specs.Adding.{AddsEntry, HasRoomOr};
 ghost use Rattle.lf_kernel.specs.Checks.{ChecksType};
 ghost use Rattle.lf_terms.specs.Types.{type_of};
 
+use basics::limits::MOST_SYMBOLS;
 use crate::answer::Check;
 use crate::sig_fault::SigFault;
 use crate::typing::{check_kind, check_type};
@@ -13,19 +14,16 @@ use basics::{Name, NoMemory};
 use lf_terms::{GoalList, Kind, Signature, Ty, Tys};
 use std::alloc::Global;
 
-// The greatest number of families and constants together.
-const LIMIT: u32 = 65_535;
-
 /// Adds a family with its kind, under a new name, and answers its number among the families. It is refused
 /// as `Taken`, with the place of the entry that has the name; as `Full`; as `Ill`, with the path at which
-/// its kind first fails to be well formed; or for want of memory, with the name. A refusal changes nothing.
+/// its kind first fails to be well formed; or when memory runs out, with the name. A refusal changes nothing.
 pub fn add_family(
     alloc: Global,
     sig: &mut Signature,
     name: Name,
     kind: Kind,
 ) -> Result<u32, SigFault>
-    ensures { Adds sig.old sig.new (family_entry name kind.binders) result }
+    ensures { AddsEntry sig.old sig.new (family_entry name kind.binders) result }
 {
     if let Err(fault) = room_for(&*sig, &name) {
         return Err(fault);
@@ -42,7 +40,7 @@ pub fn add_family(
 
 /// Adds a constant with its type, as `add_family` adds a family, and answers its number among the constants.
 pub fn add_const(alloc: Global, sig: &mut Signature, name: Name, ty: Ty) -> Result<u32, SigFault>
-    ensures { Adds sig.old sig.new (constant_entry name (type_of ty)) result }
+    ensures { AddsEntry sig.old sig.new (constant_entry name (type_of ty)) result }
 {
     if let Err(fault) = room_for(&*sig, &name) {
         return Err(fault);
@@ -65,7 +63,7 @@ fn room_for(sig: &Signature, name: &Name) -> Result<(), SigFault>
     match sig.order_of(name) {
         Some(place) => Err(SigFault::Taken(place)),
         None => {
-            if sig.size() >= LIMIT {
+            if sig.size() >= MOST_SYMBOLS {
                 Err(SigFault::Full)
             } else {
                 Ok(())

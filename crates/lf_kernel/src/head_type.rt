@@ -6,7 +6,7 @@ ghost use Rattle.lf_definitions.specs.Typing.{type_at, type_of_metavariable};
 ghost use Rattle.lf_kernel.specs.Heads.{typing_at, seen_type};
 ghost use Rattle.lf_terms.specs.Terms.{head_of};
 
-use crate::scope::{Scope, type_of_variable};
+use crate::local_context::{LocalContext, type_of_variable};
 use basics::NoMemory;
 use lf_terms::{GoalList, Head, Signature, Terms, Tys};
 
@@ -21,11 +21,11 @@ pub struct HeadType<'a> {
 }
 
 /// The type of a head, if it may occur. It takes no memory; a number of a variable that is the greatest of its
-/// type is want of memory.
+/// type is out of memory.
 pub fn type_of_head<'a>(
     sig: &'a Signature,
     metas: &'a GoalList,
-    scope: &'a Scope<'a>,
+    scope: &'a LocalContext<'a>,
     head: Head,
 ) -> Result<Option<HeadType<'a>>, NoMemory>
     ensures { IfOk result (λ found. seen_type found ≡ typing_at sig.now metas.now scope.now (head_of head)) }

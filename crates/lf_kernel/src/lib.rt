@@ -8,7 +8,7 @@ pub mod adding;
 mod answer;
 pub mod head_type;
 mod path;
-pub mod scope;
+pub mod local_context;
 mod sig_fault;
 mod stripping;
 pub mod typing;
@@ -17,6 +17,3 @@ mod walk_type;
 
 pub use answer::Check;
 pub use sig_fault::SigFault;
-
-#[cfg(test)]
-mod tests;

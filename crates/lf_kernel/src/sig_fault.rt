@@ -12,6 +12,6 @@ pub enum SigFault {
     Full,
     /// The kind or the type is not well formed, and first fails at this path.
     Ill(Path),
-    /// Want of memory, with the name that was handed in.
+    /// Out of memory, with the name that was handed in.
     NoMemory(Name),
 }

@@ -8,7 +8,7 @@ ghost use Rattle.lf_terms.specs.Terms.{term_of};
 ghost use Rattle.lf_terms.specs.Types.{type_of};
 
 use crate::answer::{Check, answer_of};
-use crate::scope::Scope;
+use crate::local_context::LocalContext;
 use crate::walk::walk_term;
 use crate::walk_type::{walk_binders, walk_type};
 use basics::NoMemory;
@@ -17,7 +17,7 @@ use std::alloc::Global;
 
 /// Whether a term has a type, in a context over a signature, with goals as metavariables. `Ill` carries the
 /// path of the first failure. The term is any term: heads that may not occur are failures. It walks once
-/// over the term, from left to right, and ends at the first failure. `NoMemory` comes for want of memory.
+/// over the term, from left to right, and ends at the first failure. `NoMemory` comes when memory runs out.
 pub fn check(
     alloc: Global,
     sig: &Signature,
@@ -32,9 +32,9 @@ pub fn check(
     ensures { IfOk result (λ answer. Checks (typing_in sig.now metas.now ctx.now) (term_of term.now) (type_of ty.now) answer) }
 {
     sig.is_formed();
-    let closed = Scope::Closed;
+    let closed = LocalContext::Closed;
     let types = ctx.as_slice();
-    let found = walk_term(alloc, sig, metas, &Scope::Under(types, &closed), term, ty)?;
+    let found = walk_term(alloc, sig, metas, &LocalContext::Under(types, &closed), term, ty)?;
     Ok(answer_of(found))
 }
 
@@ -51,9 +51,9 @@ pub fn check_type(
     ensures { IfOk result (λ answer. ChecksType (kinds_in sig.now) (typing_in sig.now metas.now ctx.now) (type_of ty.now) answer) }
 {
     sig.is_formed();
-    let closed = Scope::Closed;
+    let closed = LocalContext::Closed;
     let types = ctx.as_slice();
-    let found = walk_type(alloc, sig, metas, &Scope::Under(types, &closed), ty)?;
+    let found = walk_type(alloc, sig, metas, &LocalContext::Under(types, &closed), ty)?;
     Ok(answer_of(found))
 }
 
@@ -64,6 +64,6 @@ pub fn check_kind(alloc: Global, sig: &Signature, kind: &Kind) -> Result<Check, 
     sig.is_formed();
     let metas = GoalList::new(alloc);
     let binders = kind.binders.as_slice();
-    let found = walk_binders(alloc, sig, &metas, &Scope::Closed, binders)?;
+    let found = walk_binders(alloc, sig, &metas, &LocalContext::Closed, binders)?;
     Ok(answer_of(found))
 }

@@ -8,7 +8,7 @@ ghost use Rattle.lf_definitions.specs.Typing.{Typed, TypedSpine};
 ghost use Rattle.lf_definitions.specs.Failures.{FailsTerm, FailsSpine};
 ghost use Rattle.lf_kernel.specs.Checks.{Walks};
 ghost use Rattle.lf_kernel.specs.Heads.{typing_at};
-ghost use Rattle.lf_kernel.specs.Knowing.{ShapedAt, ShapedTypeAt, ShapedBindersAt};
+ghost use Rattle.lf_kernel.specs.ShapedPlaces.{ShapedAt, ShapedTypeAt, ShapedBindersAt};
 ghost use Rattle.lf_kernel.specs.Results.{Gives};
 ghost use Rattle.lf_terms.specs.Putting.{Puts, ArgsShaped};
 ghost use Rattle.lf_terms.specs.Terms.{head_of, term_of};
@@ -16,7 +16,7 @@ ghost use Rattle.lf_terms.specs.Types.{type_of};
 
 use crate::head_type::{HeadType, type_of_head};
 use crate::path::{step, under};
-use crate::scope::Scope;
+use crate::local_context::LocalContext;
 use crate::stripping::body_under;
 use lf_terms::same::same_terms;
 use lf_terms::shape_of::shapes_of;
@@ -31,7 +31,7 @@ pub fn walk_term<'a>(
     alloc: Global,
     sig: &'a Signature,
     metas: &'a GoalList,
-    scope: &'a Scope<'a>,
+    scope: &'a LocalContext<'a>,
     term: &'a Term,
     ty: &'a Ty,
 ) -> Result<Option<Ids>, NoMemory>
@@ -47,7 +47,7 @@ pub fn walk_term<'a>(
     match body_under(term, count) {
         Err(depth) => Ok(Some(under(Ids::new(alloc), depth)?)),
         Ok(body) => {
-            match walk_body(alloc, sig, metas, &Scope::Under(binders, scope), body, ty)? {
+            match walk_body(alloc, sig, metas, &LocalContext::Under(binders, scope), body, ty)? {
                 None => Ok(None),
                 Some(path) => Ok(Some(under(path, count)?)),
             }
@@ -61,7 +61,7 @@ fn walk_body<'a>(
     alloc: Global,
     sig: &'a Signature,
     metas: &'a GoalList,
-    scope: &'a Scope<'a>,
+    scope: &'a LocalContext<'a>,
     body: &'a Term,
     ty: &'a Ty,
 ) -> Result<Option<Ids>, NoMemory>
@@ -80,7 +80,7 @@ fn walk_spine<'a>(
     alloc: Global,
     sig: &'a Signature,
     metas: &'a GoalList,
-    scope: &'a Scope<'a>,
+    scope: &'a LocalContext<'a>,
     head: Head,
     args: &'a Terms,
     ty: &'a Ty,
@@ -124,7 +124,7 @@ pub fn walk_args<'a>(
     alloc: Global,
     sig: &'a Signature,
     metas: &'a GoalList,
-    scope: &'a Scope<'a>,
+    scope: &'a LocalContext<'a>,
     binders: &'a Tys,
     shapes: &'a Shapes,
     raise: u32,

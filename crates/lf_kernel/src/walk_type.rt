@@ -7,11 +7,11 @@ ghost use Rattle.lf_definitions.specs.Failures.{FailsType, FailsTypeFrom, FailsC
 ghost use Rattle.lf_definitions.specs.Signatures.{kinds_in};
 ghost use Rattle.lf_kernel.specs.Checks.{Walks};
 ghost use Rattle.lf_kernel.specs.Heads.{typing_at};
-ghost use Rattle.lf_kernel.specs.Knowing.{ShapedAt};
+ghost use Rattle.lf_kernel.specs.ShapedPlaces.{ShapedAt};
 ghost use Rattle.lf_terms.specs.Types.{type_of, types_of};
 
 use crate::path::step;
-use crate::scope::Scope;
+use crate::local_context::LocalContext;
 use crate::walk::walk_args;
 use lf_terms::shape_of::shapes_of;
 use basics::{Ids, NoMemory};
@@ -24,7 +24,7 @@ pub fn walk_binders<'a>(
     alloc: Global,
     sig: &'a Signature,
     metas: &'a GoalList,
-    scope: &'a Scope<'a>,
+    scope: &'a LocalContext<'a>,
     binders: &'a [Ty],
 ) -> Result<Option<Ids>, NoMemory>
     requires { ShapedAt sig.now metas.now scope.now }
@@ -35,7 +35,7 @@ pub fn walk_binders<'a>(
             alloc,
             sig,
             metas,
-            &Scope::Under(&binders[..i], scope),
+            &LocalContext::Under(&binders[..i], scope),
             &binders[i],
         )? {
             None => {}
@@ -51,7 +51,7 @@ pub fn walk_type<'a>(
     alloc: Global,
     sig: &'a Signature,
     metas: &'a GoalList,
-    scope: &'a Scope<'a>,
+    scope: &'a LocalContext<'a>,
     ty: &'a Ty,
 ) -> Result<Option<Ids>, NoMemory>
     requires { ShapedAt sig.now metas.now scope.now }
@@ -64,7 +64,7 @@ pub fn walk_type<'a>(
             alloc,
             sig,
             metas,
-            &Scope::Under(binders, scope),
+            &LocalContext::Under(binders, scope),
             ty.family,
             &ty.args,
             binders.len(),
@@ -77,7 +77,7 @@ fn walk_family<'a>(
     alloc: Global,
     sig: &'a Signature,
     metas: &'a GoalList,
-    scope: &'a Scope<'a>,
+    scope: &'a LocalContext<'a>,
     number: u32,
     args: &'a Terms,
     first: usize,

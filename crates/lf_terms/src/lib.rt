@@ -1,4 +1,4 @@
-//! What every layer shares: want of memory, names and their look-up, short lists of numbers, bytes
+//! What every layer shares: out of memory, names and their look-up, short lists of numbers, bytes
 //! and names; the terms of LF with their shapes and types, goals, and signatures. Contracts see a name
 //! as its bytes, a list as the list of its entries, and terms, shapes, types, goals and signatures as
 //! the plain data of `lf_definitions`, which alone stands below. Copies of terms share structure, of
@@ -28,10 +28,3 @@ pub use shape::{MetaShape, MetaShapes, Shape, Shapes};
 pub use signature::Signature;
 pub use term::{Body, Term, Terms};
 pub use ty::{Atom, Ctx, Kind, Ty, Tys};
-
-#[cfg(test)]
-mod signature_tests;
-#[cfg(test)]
-mod term_tests;
-#[cfg(test)]
-mod tests;

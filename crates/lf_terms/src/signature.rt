@@ -7,6 +7,7 @@ ghost use Rattle.lf_definitions.specs.Typing.{type_at};
 ghost use Rattle.lf_definitions.specs.Signatures.{LfSignature, family_entry, constant_entry, names_of, family_names, family_kinds, constant_names, constant_types, kinds_in, IsNewName, FormedEntry, FormedSignature};
 ghost use Rattle.basics.specs.Places.{place_of};
 ghost use Rattle.lf_terms.specs.Types.{type_of};
+ghost use Rattle.basics.specs.Limits.{most_symbols};
 
 use crate::found::Found;
 use basics::Name;
@@ -179,11 +180,11 @@ impl Signature {
         &self.shapes
     }
 
-    /// Adds a family with its kind and answers its number. For want of memory the name comes back, and the
+    /// Adds a family with its kind and answers its number. When memory runs out the name comes back, and the
     /// signature is as it was.
     pub fn push_family(&mut self, alloc: Global, name: Name, kind: Kind) -> Result<u32, Name>
         requires is_new { IsNewName self.old name }
-        requires room { length self.old < 65535 }
+        requires room { length self.old < most_symbols }
         requires formed { FormedEntry self.old (family_entry name kind.binders) }
         ensures number { IfOk result (λ number. number ≡ length (family_names self.old)) }
         ensures ok { OnOk result (self.new ≡ self.old ++ family_entry name kind.binders ∷ []) }
@@ -205,11 +206,11 @@ impl Signature {
         Ok(number)
     }
 
-    /// Adds a constant with its type and answers its number. For want of memory the name comes back, and the
+    /// Adds a constant with its type and answers its number. When memory runs out the name comes back, and the
     /// signature is as it was.
     pub fn push_const(&mut self, alloc: Global, name: Name, ty: Ty) -> Result<u32, Name>
         requires is_new { IsNewName self.old name }
-        requires room { length self.old < 65535 }
+        requires room { length self.old < most_symbols }
         requires formed { FormedEntry self.old (constant_entry name (type_of ty)) }
         ensures number { IfOk result (λ number. number ≡ length (constant_names self.old)) }
         ensures ok { OnOk result (self.new ≡ self.old ++ constant_entry name (type_of ty) ∷ []) }

@@ -11,7 +11,7 @@ use Rattle.file_elab.specs.GrammarNames.{IsGrammarName}
 use Rattle.file_print.specs.Mentions.{mentions}
 use Rattle.file_print.specs.Printable.{IsPrintableHead, IsPrintable, ArePrintable, IsPrintableType}
 use Rattle.file_print.specs.Texts.{is_name, has_binders, type_text}
-use Rattle.printed_tokens.specs.Pieces.{Piece, space, piece, variable_piece, head_piece, in_parentheses, tokens_from, term_pieces, args_pieces, type_pieces}
+use Rattle.printed_tokens.specs.Pieces.{Piece, space, piece, variable_piece, head_piece, pieces_in_parentheses, tokens_from, term_pieces, args_pieces, type_pieces}
 use Rattle.printed_tokens.proofs.PieceTexts.{type_text-pieces}
 use Rattle.printed_tokens.proofs.Spelled.{Cut-Spelled, Spells-Spelled}
 use Rattle.printed_tokens.proofs.Names.{Begins, Follows, followed, nothing_follows, space_follows, opening_begins, bracket_begins, brace_begins, arrow_begins, closing_follows, bracket_follows, brace_follows, colon_follows, name_begins, variable_begins}
@@ -27,13 +27,13 @@ module _ (sig : LfSignature) (named : AreNamed sig) where
   head_begins depth (constant c) ps printable after = name_begins (name_at (constant_names sig) c) ps (named.constants c printable) after
   head_begins depth (metavariable g) ps printable after = absurd printable
 
-  enclosed : (ps qs : List Piece) → ((after : List Piece) → Follows after → Begins (ps ++ after)) → Begins qs → Begins (in_parentheses ps ++ qs)
+  enclosed : (ps qs : List Piece) → ((after : List Piece) → Follows after → Begins (ps ++ after)) → Begins qs → Begins (pieces_in_parentheses ps ++ qs)
   enclosed ps qs inside after =
       subst (λ l. Begins (piece LParen (codes "(") ∷ l)) (sym (append_assoc ps (piece RParen (codes ")") ∷ []) qs))
       (opening_begins (ps ++ piece RParen (codes ")") ∷ qs) (inside (piece RParen (codes ")") ∷ qs) (closing_follows qs after)))
 
   argument_begins : (b : Bool) (ps after : List Piece) → ((qs : List Piece) → Follows qs → Begins (ps ++ qs)) → Follows after →
-      Begins ((if b then ps else in_parentheses ps) ++ after)
+      Begins ((if b then ps else pieces_in_parentheses ps) ++ after)
   argument_begins true ps after inside follows = inside after follows
   argument_begins false ps after inside follows = enclosed ps after inside (followed after follows)
 
@@ -52,7 +52,7 @@ module _ (sig : LfSignature) (named : AreNamed sig) where
     args_follow depth no_args after printable follows = follows
     args_follow depth (arg t ts) after printable follows =
         let rest = args_pieces sig depth ts ++ after in
-        let here = if is_name t then term_pieces sig depth t else in_parentheses (term_pieces sig depth t) in
+        let here = if is_name t then term_pieces sig depth t else pieces_in_parentheses (term_pieces sig depth t) in
         subst (λ l. Follows (space ∷ l)) (sym (append_assoc here (args_pieces sig depth ts) after))
         (space_follows (here ++ rest)
         (argument_begins (is_name t) (term_pieces sig depth t) rest (λ qs follow. term_begins depth t qs printable.0 follow)
@@ -68,29 +68,29 @@ module _ (sig : LfSignature) (named : AreNamed sig) where
       (colon_follows (ps ++ end) (inside end (brace_follows (space ∷ after) (followed (space ∷ after) (space_follows after begins)))))))
 
   pointed_begins : (b : Bool) (ps after : List Piece) → ((qs : List Piece) → Follows qs → Begins (ps ++ qs)) → Begins after →
-      Begins (((if b then in_parentheses ps else ps) ++ space ∷ piece Arrow (codes "->") ∷ space ∷ []) ++ after)
+      Begins (((if b then pieces_in_parentheses ps else ps) ++ space ∷ piece Arrow (codes "->") ∷ space ∷ []) ++ after)
   pointed_begins b ps after inside begins =
       let end = space ∷ piece Arrow (codes "->") ∷ space ∷ after in
       let follows : Follows end = space_follows (piece Arrow (codes "->") ∷ space ∷ after)
       (arrow_begins (space ∷ after) (followed (space ∷ after) (space_follows after begins))) in
-      subst Begins (sym (append_assoc (if b then in_parentheses ps else ps) (space ∷ piece Arrow (codes "->") ∷ space ∷ []) after)) (left_begins b ps end inside follows)
+      subst Begins (sym (append_assoc (if b then pieces_in_parentheses ps else ps) (space ∷ piece Arrow (codes "->") ∷ space ∷ []) after)) (left_begins b ps end inside follows)
     where
-      left_begins : (b : Bool) (ps end : List Piece) → ((qs : List Piece) → Follows qs → Begins (ps ++ qs)) → Follows end → Begins ((if b then in_parentheses ps else ps) ++ end)
+      left_begins : (b : Bool) (ps end : List Piece) → ((qs : List Piece) → Follows qs → Begins (ps ++ qs)) → Follows end → Begins ((if b then pieces_in_parentheses ps else ps) ++ end)
       left_begins true ps end inside follows = enclosed ps end inside (followed end follows)
       left_begins false ps end inside follows = inside end follows
 
   binder_begins : (m b : Bool) (depth : ℕ) (ps after : List Piece) → ((qs : List Piece) → Follows qs → Begins (ps ++ qs)) → Begins after →
       Begins ((if m then piece LBrace (codes "{") ∷ variable_piece depth ∷ piece Colon (codes ":") ∷ ps ++ piece RBrace (codes "}") ∷ space ∷ []
-      else (if b then in_parentheses ps else ps) ++ space ∷ piece Arrow (codes "->") ∷ space ∷ []) ++ after)
+      else (if b then pieces_in_parentheses ps else ps) ++ space ∷ piece Arrow (codes "->") ∷ space ∷ []) ++ after)
   binder_begins true b depth ps after inside begins = braced_begins depth ps after inside begins
   binder_begins false b depth ps after inside begins = pointed_begins b ps after inside begins
 
   pub type_begins : (depth : ℕ) (a : LfType) (after : List Piece) → IsPrintableType sig depth a → Follows after → Begins (type_pieces sig depth a ++ after)
   type_begins depth (pi a b) after printable follows =
-      let front = if mentions 0 b
+      let prefix = if mentions 0 b
       then piece LBrace (codes "{") ∷ variable_piece depth ∷ piece Colon (codes ":") ∷ type_pieces sig depth a ++ piece RBrace (codes "}") ∷ space ∷ []
-      else (if has_binders a then in_parentheses (type_pieces sig depth a) else type_pieces sig depth a) ++ space ∷ piece Arrow (codes "->") ∷ space ∷ [] in
-      subst Begins (sym (append_assoc front (type_pieces sig (suc depth) b) after))
+      else (if has_binders a then pieces_in_parentheses (type_pieces sig depth a) else type_pieces sig depth a) ++ space ∷ piece Arrow (codes "->") ∷ space ∷ [] in
+      subst Begins (sym (append_assoc prefix (type_pieces sig (suc depth) b) after))
       (binder_begins (mentions 0 b) (has_binders a) depth (type_pieces sig depth a) (type_pieces sig (suc depth) b ++ after)
       (λ qs follow. type_begins depth a qs printable.0 follow) (type_begins (suc depth) b after printable.1 follows))
   type_begins depth (family f args) after printable follows =

@@ -35,8 +35,8 @@ head_piece sig depth (bound n) = variable_piece (depth - suc n)
 head_piece sig depth (constant c) = piece Word (name_at (constant_names sig) c)
 head_piece sig depth (metavariable g) = piece Word []
 
-abbrev pub in_parentheses : List Piece → List Piece
-in_parentheses pieces = piece LParen (codes "(") ∷ pieces ++ piece RParen (codes ")") ∷ []
+abbrev pub pieces_in_parentheses : List Piece → List Piece
+pieces_in_parentheses pieces = piece LParen (codes "(") ∷ pieces ++ piece RParen (codes ")") ∷ []
 
 abbrev mutual
   pub term_pieces : LfSignature → ℕ → LfTerm → List Piece
@@ -47,12 +47,12 @@ abbrev mutual
   pub args_pieces : LfSignature → ℕ → Spine → List Piece
   args_pieces sig depth no_args = []
   args_pieces sig depth (arg t ts) =
-      space ∷ (if is_name t then term_pieces sig depth t else in_parentheses (term_pieces sig depth t)) ++ args_pieces sig depth ts
+      space ∷ (if is_name t then term_pieces sig depth t else pieces_in_parentheses (term_pieces sig depth t)) ++ args_pieces sig depth ts
 
 abbrev pub type_pieces : LfSignature → ℕ → LfType → List Piece
 type_pieces sig depth (pi a b) =
     (if mentions 0 b
     then piece LBrace (codes "{") ∷ variable_piece depth ∷ piece Colon (codes ":") ∷ type_pieces sig depth a ++ piece RBrace (codes "}") ∷ space ∷ []
-    else (if has_binders a then in_parentheses (type_pieces sig depth a) else type_pieces sig depth a) ++ space ∷ piece Arrow (codes "->") ∷ space ∷ [])
+    else (if has_binders a then pieces_in_parentheses (type_pieces sig depth a) else type_pieces sig depth a) ++ space ∷ piece Arrow (codes "->") ∷ space ∷ [])
     ++ type_pieces sig (suc depth) b
 type_pieces sig depth (family f args) = piece Word (name_at (family_names sig) f) ∷ args_pieces sig depth args

@@ -45,15 +45,15 @@ Stand text place [] = Unit {0}
 Stand text place (space ∷ ps) = Stand text (place + 1) ps
 Stand text place (piece mark word ∷ ps) = (slice_range text.bytes place (place + length word) ≡ word) × NextIs text place ps × Stand text (place + length word) ps
 
-next_front : (text : Text) (place : ℕ) (ps qs : List Piece) → NextIs text place (ps ++ qs) → NextIs text place ps
-next_front text place [] qs h = tt
-next_front text place (space ∷ ps) qs h = tt
-next_front text place (piece mark next ∷ ps) qs h = h
+next_prefix : (text : Text) (place : ℕ) (ps qs : List Piece) → NextIs text place (ps ++ qs) → NextIs text place ps
+next_prefix text place [] qs h = tt
+next_prefix text place (space ∷ ps) qs h = tt
+next_prefix text place (piece mark next ∷ ps) qs h = h
 
-pub Stand-front : (text : Text) (place : ℕ) (ps qs : List Piece) → Stand text place (ps ++ qs) → Stand text place ps
-Stand-front text place [] qs h = tt
-Stand-front text place (space ∷ ps) qs h = Stand-front text (place + 1) ps qs h
-Stand-front text place (piece mark word ∷ ps) qs h = (h.0, next_front text place ps qs h.1, Stand-front text (place + length word) ps qs h.2)
+pub Stand-prefix : (text : Text) (place : ℕ) (ps qs : List Piece) → Stand text place (ps ++ qs) → Stand text place ps
+Stand-prefix text place [] qs h = tt
+Stand-prefix text place (space ∷ ps) qs h = Stand-prefix text (place + 1) ps qs h
+Stand-prefix text place (piece mark word ∷ ps) qs h = (h.0, next_prefix text place ps qs h.1, Stand-prefix text (place + length word) ps qs h.2)
 
 pub Stand-rest : (text : Text) (place : ℕ) (ps qs : List Piece) → Stand text place (ps ++ qs) → Stand text (past place ps) qs
 Stand-rest text place [] qs h = h
@@ -67,7 +67,7 @@ range_is before word after place here =
     ap (take (place + length word - place)) (ap (λ n. drop n (before ++ (word ++ after))) here ∙ drop-append_seam before (word ++ after))
     ∙ take_at word after (place + length word - place) size
 
-no_empty : (mark : Mark) (front text : List ℕ) → Spells front text → Forms mark front → 0 < length text
+no_empty : (mark : Mark) (prefix text : List ℕ) → Spells prefix text → Forms mark prefix → 0 < length text
 no_empty mark [] text spelled forms = absurd (Forms-some mark forms)
 no_empty mark (c ∷ cs) text spelled forms =
     let wide = width-cons c cs in
@@ -104,10 +104,10 @@ stand_from text before earlier place _ _ spelled_nothing here bytes tokens all =
 stand_from text before earlier place _ _ (spelled_space ps rest h) here bytes tokens all =
     stand_from text (before ++ 32 ∷ []) earlier (place + 1) ps rest h (omega (arith, here, length-append before (32 ∷ [])))
     (bytes ∙ sym (append_assoc before (32 ∷ []) (pieces_text ps))) tokens (later earlier place (place + 1) (omega arith) all)
-stand_from text before earlier place _ _ (spelled_piece mark word front rest ps spelled longest short h) here bytes tokens all =
+stand_from text before earlier place _ _ (spelled_piece mark word prefix rest ps spelled longest short h) here bytes tokens all =
     let token : Token = record { mark = mark; start = place; end = place + length word } in
     let after = place + length word in
-    let some = no_empty mark front word spelled longest.forms in
+    let some = no_empty mark prefix word spelled longest.forms in
     let inside = stand_from text (before ++ word) (earlier ++ token ∷ []) after ps rest h (omega (arith, here, length-append before word))
     (bytes ∙ sym (append_assoc before word (pieces_text ps))) (tokens ∙ sym (append_assoc earlier (token ∷ []) (tokens_from after ps)))
     (one_later earlier token after (later earlier place after (omega arith) all) (omega (arith, some))) in

@@ -3,7 +3,7 @@ use Rattle.std.specs.Prelude.{[], All}
 use Rattle.lf_definitions.specs.Syntax.{LfType}
 use Rattle.lf_definitions.specs.Signatures.{LfSignature, names_of}
 use Rattle.file_trees.specs.Trees.{Classifier}
-use Rattle.file_syntax.specs.Signs.{signs_of}
+use Rattle.file_syntax.specs.Terminals.{terminals_of}
 use Rattle.file_syntax.specs.Productions.{IsType}
 use Rattle.elab_terms.specs.Names.{Text}
 use Rattle.file_elab.specs.GrammarNames.{IsGrammarName}
@@ -19,4 +19,4 @@ printed sig a = record { bytes = type_text sig 0 a; tokens = tokens_from 0 (type
 -- The grammar reads the tokens of a printed type as a tree of it.
 abbrev pub PrintedTypesHaveTheirTrees : Type 0
 PrintedTypesHaveTheirTrees = (sig : LfSignature) (a : LfType) → All IsGrammarName (names_of sig) → IsPrintableType sig 0 a →
-    (tree : Classifier) × IsType (signs_of (printed sig a).bytes (printed sig a).tokens) [] tree × IsPrintedType (printed sig a) sig 0 a tree
+    (tree : Classifier) × IsType (terminals_of (printed sig a).bytes (printed sig a).tokens) [] tree × IsPrintedType (printed sig a) sig 0 a tree

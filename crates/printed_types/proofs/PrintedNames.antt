@@ -13,7 +13,7 @@ use Rattle.basics.specs.Places.{place_of}
 use Rattle.lf_definitions.specs.Syntax.{bound, constant, LfType}
 use Rattle.lf_definitions.specs.Typing.{type_at}
 use Rattle.lf_definitions.specs.Signatures.{LfSignature, family_entry, constant_entry, constant_names, constant_types, family_names, kinds_in, FormedSignature, name_at}
-use Rattle.elab_terms.specs.Names.{Bound, variable_of, head_or, head_of, family_or, family_of}
+use Rattle.elab_terms.specs.Names.{Bound, variable_of, head_or, named_head, family_or, family_of}
 use Rattle.elab_terms.proofs.SignatureNames.{find_constant, find_family}
 use Rattle.file_elab.specs.GrammarNames.{IsGrammarName}
 use Rattle.file_print.specs.Texts.{variable_text}
@@ -109,7 +109,7 @@ family_named (family_entry name k ∷ sig) (suc f) kind e = family_named sig f k
 
 -- the name of a constant stands for it
 pub constant_found : (sig : LfSignature) (binders : Bound) (c : ℕ) (a : LfType) → FormedSignature sig → type_at (constant_types sig) c ≡ Some a →
-    variable_of binders (name_at (constant_names sig) c) ≡ None → head_of sig binders (name_at (constant_names sig) c) ≡ Some (constant c)
+    variable_of binders (name_at (constant_names sig) c) ≡ None → named_head sig binders (name_at (constant_names sig) c) ≡ Some (constant c)
 constant_found sig binders c a formed typed free =
     let name = name_at (constant_names sig) c in
     ap (head_or (option_map constant (place_of (constant_names sig) name))) free
@@ -122,6 +122,6 @@ family_found sig binders f kind formed is free =
     ap (family_or (place_of (family_names sig) name)) free ∙ sym (find_family sig name f formed (family_named sig f kind is))
 
 pub bound_found : (sig : LfSignature) (binders : Bound) (depth n : ℕ) → ArePrinted binders depth → depth ≤ 2 ^ 64 → IsNamed binders n →
-    head_of sig binders (variable_text (depth - suc n)) ≡ Some (bound n)
+    named_head sig binders (variable_text (depth - suc n)) ≡ Some (bound n)
 bound_found sig binders depth n printed few is =
     ap (head_or (option_map constant (place_of (constant_names sig) (variable_text (depth - suc n))))) (variable_found binders depth n printed few is)

@@ -8,7 +8,7 @@ use Rattle.lf_definitions.specs.Substitution.{Replacement, substituted_family}
 use Rattle.lf_definitions.specs.Typing.{Typing, Kinds, Typed, typed_lam, typed_at, TypedSpine, typed_none, typed_arg, Formed, formed_pi, formed_family, with_variable, type_at}
 use Rattle.lf_definitions.specs.Signatures.{LfSignature, constant_types, kinds_in, typing_in, FormedSignature}
 use Rattle.file_trees.specs.Trees.{Tree, Classifier}
-use Rattle.elab_terms.specs.Names.{Text, Bound, head_of, family_of}
+use Rattle.elab_terms.specs.Names.{Text, Bound, named_head, family_of}
 use Rattle.elab_terms.specs.Terms.{ReadsTerm, reads_abstraction, reads_application, ReadsArguments, reads_none, reads_argument}
 use Rattle.elab_terms.specs.Types.{ReadsType, reads_binder, reads_family}
 use Rattle.elab_terms.proofs.Expanding.{expanded_none}
@@ -55,7 +55,7 @@ sees_past binders outside inside same none sees (suc n) e = sees n (same n e)
 
 module _ (text : Text) (sig : LfSignature) (formed : FormedSignature sig) (names : AreNamed sig) where
   head_read : (binders : Bound) (depth : ℕ) (Γ : Typing) (h : LfHead) (ts : Spine) (a : LfType) → IsKnown sig binders depth Γ → depth < 2 ^ 64 → Sees binders (λ n. mentions_in_term n (at h ts)) →
-      Γ h ≡ Some a → head_of sig binders (head_text sig depth h) ≡ Some h
+      Γ h ≡ Some a → named_head sig binders (head_text sig depth h) ≡ Some h
   head_read binders depth Γ (bound n) ts a known small sees typed =
       bound_found sig binders depth n known.printed (omega (arith, small)) (sees n (or_left (nat_eq n n) (mentions_in_spine n ts) (eq-eqb n n refl)))
   head_read binders depth Γ (constant c) ts a known small sees typed =
@@ -75,7 +75,7 @@ module _ (text : Text) (sig : LfSignature) (formed : FormedSignature sig) (names
         (subst (λ binder. ReadsTerm text sig (binder ∷ binders) (with_variable a Γ) inside c b) (sym name) read)
     term_read {binders} {depth} {Γ} known sees within (typed_at {h = h} {ts = ts} {results = results} {f = f} domains args is spine result) (printed_application _ _ _ tree span arguments applied name printed) =
         let read = args_read known (λ n e. sees n (or_right (is_variable n h) (mentions_in_spine n ts) e)) within.1 spine printed in
-        let head = ap (head_of sig binders) name ∙ head_read binders depth Γ h ts (pis domains (family f args)) known within.0 sees is in
+        let head = ap (named_head sig binders) name ∙ head_read binders depth Γ h ts (pis domains (family f args)) known within.0 sees is in
         let all = is ∙ ap (λ l. Some (pis l (family f args))) (sym (append-nil domains)) in
         subst (ReadsTerm text sig binders Γ tree (family f results)) (sym (expanded_none h ts ts base refl refl))
         (reads_application binders Γ tree span arguments h domains [] f args ts (family f results) applied head all read (substituted_family result))

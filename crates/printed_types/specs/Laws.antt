@@ -6,7 +6,7 @@ use Rattle.lf_definitions.specs.Signatures.{LfSignature, names_of, kinds_in, typ
 use Rattle.lex_text.specs.declared.token.Token.{Token}
 use Rattle.lex_text.specs.Tokens.{TokensOf}
 use Rattle.file_trees.specs.Trees.{Classifier}
-use Rattle.file_syntax.specs.Signs.{signs_of}
+use Rattle.file_syntax.specs.Terminals.{terminals_of}
 use Rattle.file_syntax.specs.Productions.{IsType}
 use Rattle.file_syntax.specs.Nesting.{IsShallow}
 use Rattle.elab_terms.specs.Names.{Text}
@@ -28,8 +28,8 @@ pub record ReadsBack (sig : LfSignature) (bytes : List ℕ) (a : LfType) : Type 
   pub tokens : List Token
   pub cut : TokensOf bytes tokens
   pub tree : Classifier
-  pub parsed : IsType (signs_of bytes tokens) [] tree
-  pub shallow : IsShallow (signs_of bytes tokens)
+  pub parsed : IsType (terminals_of bytes tokens) [] tree
+  pub shallow : IsShallow (terminals_of bytes tokens)
   pub read : ReadsType (record { bytes = bytes; tokens = tokens }) sig [] (typing_in sig [] []) 0 tree a
 
 -- What is printed for a well-formed type reads back, where the names are names of the grammar, no type within it has more than 1,000 binders,
@@ -37,4 +37,4 @@ pub record ReadsBack (sig : LfSignature) (bytes : List ℕ) (a : LfType) : Type 
 abbrev pub PrintedTypesReadBack : Type 0
 PrintedTypesReadBack = (sig : LfSignature) (a : LfType) → FormedSignature sig → All IsGrammarName (names_of sig) →
     Formed (kinds_in sig) (typing_in sig [] []) a → HasFewBinders 0 a →
-    ((tokens : List Token) → TokensOf (type_text sig 0 a) tokens → IsShallow (signs_of (type_text sig 0 a) tokens)) → ReadsBack sig (type_text sig 0 a) a
+    ((tokens : List Token) → TokensOf (type_text sig 0 a) tokens → IsShallow (terminals_of (type_text sig 0 a) tokens)) → ReadsBack sig (type_text sig 0 a) a

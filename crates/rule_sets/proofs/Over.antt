@@ -5,7 +5,7 @@ use Rattle.std.proofs.lemmas.List.Elements.{All-nil, All-cons, All-append, All-w
 use Rattle.lf_definitions.specs.Syntax.{LfType}
 use Rattle.lf_definitions.specs.Signatures.{LfSignature, constant_types, family_kinds}
 use Rattle.lf_definitions.proofs.Growth.{constant_types-append, family_kinds-append}
-use Rattle.lf_definitions.proofs.Lists.{slice_get-front}
+use Rattle.lf_definitions.proofs.Lists.{slice_get-prefix}
 use Rattle.rule_sets.specs.declared.rule.Builder.{Builder}
 use Rattle.rule_sets.specs.declared.rule.Builder.TheVariants.{Apply, Constructors, Cases, Forward, Destruct, Assumption, Hyps}
 use Rattle.rule_sets.specs.declared.rule.Rule.{Rule}
@@ -20,7 +20,7 @@ use Rattle.rule_sets.proofs.Constructors.{slice_get-last}
 -- What a longer signature keeps.
 module _ (sig more : LfSignature) where
   type_stays : (c : ℕ) (a : LfType) → slice_get (constant_types sig) c ≡ Some a → slice_get (constant_types (sig ++ more)) c ≡ Some a
-  type_stays c a e = ap (λ l. slice_get l c) (constant_types-append sig more) ∙ slice_get-front (constant_types sig) (constant_types more) c a e
+  type_stays c a e = ap (λ l. slice_get l c) (constant_types-append sig more) ∙ slice_get-prefix (constant_types sig) (constant_types more) c a e
 
   fewer_constants : length (constant_types sig) ≤ length (constant_types (sig ++ more))
   fewer_constants = omega (arith, ap length (constant_types-append sig more), length-append (constant_types sig) (constant_types more))

@@ -1,5 +1,6 @@
 -- Which rules and lists of constructors a book refuses over a signature, and for which reason.
 use Rattle.std.specs.Prelude.{◌≡◌, ◌≢◌, ℕ, suc, zero, ◌<◌, ◌≤◌, List, [], ◌∷◌, ◌++◌, length, Option, Some, None, slice_get, map, All, Contains, take, Result, Ok, Err}
+use Rattle.basics.specs.Limits.{most_rules}
 use Rattle.lf_definitions.specs.Syntax.{LfType, pi, family, conclusion}
 use Rattle.lf_definitions.specs.Signatures.{LfSignature, constant_types, family_kinds}
 use Rattle.lf_definitions.specs.Occurrence as occurrence
@@ -31,7 +32,7 @@ IsTaken book rule = Contains (map (λ other. other.name) book.rules) rule.name
 
 -- As many rules stand as may: the built-in ones and 10,000.
 abbrev pub IsFull : Book → Type 0
-IsFull book = 10002 ≤ length book.rules
+IsFull book = most_rules ≤ length book.rules
 
 abbrev pub IsNoPercent : Phase → Type 0
 IsNoPercent (phases.Unsafe percent) = 100 < percent

@@ -80,7 +80,7 @@ impl RuleBook {
     }
 
     /// Adds a rule at the end, unless it has a fault; the answer is its first one then. After a refusal
-    /// the book is as it was, and for want of memory the rule comes back.
+    /// the book is as it was, and when memory runs out the rule comes back.
     pub fn add(&mut self, alloc: Global, sig: &Signature, rule: Rule) -> Result<(), RuleFault>
         requires { IsChosen rule.builder }
         ensures { Adds sig.now self.old rule result self.new }
@@ -95,7 +95,7 @@ impl RuleBook {
         }
     }
 
-    // Adds a rule at the end. For want of memory it comes back.
+    // Adds a rule at the end. When memory runs out it comes back.
     fn append(&mut self, alloc: Global, rule: Rule) -> Result<(), Rule>
         requires { IsFree self.old rule }
         ensures ok { OnOk result (self.new ≡ record { rules = self.old.rules ++ rule ∷ []; lists = self.old.lists }) }
@@ -115,7 +115,7 @@ impl RuleBook {
     }
 
     /// Lists the constructors of a family, unless the family has a list or these have a fault; the answer
-    /// is the first one then. After a refusal the book is as it was, and for want of memory the list comes
+    /// is the first one then. After a refusal the book is as it was, and when memory runs out the list comes
     /// back.
     pub fn add_ctors(
         &mut self,
@@ -141,7 +141,7 @@ impl RuleBook {
         }
     }
 
-    // Lists the constructors of a family. For want of memory they come back.
+    // Lists the constructors of a family. When memory runs out they come back.
     fn append_list(&mut self, family: u32, constants: Ids) -> Result<(), Ids>
         requires { list_of self.old.lists family ≡ None }
         ensures ok { OnOk result (self.new ≡ record { rules = self.old.rules; lists = self.old.lists ++ listed (family, constants) ∷ [] }) }

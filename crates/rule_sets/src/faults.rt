@@ -6,15 +6,13 @@ ghost use Rattle.lf_terms.specs.Types.{type_of};
 ghost use Rattle.rule_sets.specs.Refusals.{IsAtomic, IsTaken, IsFull, IsNoPercent, HasNoSubject, IsBadMajor, HasBadPremises, IsFirstFault};
 ghost use Rattle.rule_sets.specs.Tests.{IsChosen, HasNoFault, HasMajor, HasPremisesOf};
 
+use basics::limits::MOST_RULES;
 use crate::book::RuleBook;
 use crate::rule::{Builder, Phase, Rule, RuleFault};
 use lf_terms::occurs::mentioned_binders;
 use basics::NoMemory;
 use lf_terms::{Signature, Ty};
 use std::alloc::Global;
-
-// The most rules of a book.
-const MOST_RULES: u32 = 10002;
 
 // The most premises of a forward or destruct rule.
 const MOST_PREMISES: usize = 4;

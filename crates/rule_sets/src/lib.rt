@@ -14,6 +14,3 @@ pub mod rule;
 pub use book::RuleBook;
 pub use order::Ordered;
 pub use rule::{Builder, CtorFault, Phase, Rule, RuleFault, Sets};
-
-#[cfg(test)]
-mod tests;

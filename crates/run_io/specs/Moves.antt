@@ -14,10 +14,10 @@ TakesAtMost limit old new = (bytes : List ℕ) × (length bytes ≤ limit) × Co
 abbrev pub TakesMoreThan : ℕ → Option (List ℕ) → Option (List ℕ) → Type 0
 TakesMoreThan limit old new = (bytes : List ℕ) × (limit < length bytes) × Consumes old new bytes
 
--- The first bytes are a front of the second.
-abbrev pub IsFront : List ℕ → List ℕ → Type 0
-IsFront front whole = (rest : List ℕ) × (front ++ rest ≡ whole)
+-- The first bytes are a prefix of the second.
+abbrev pub IsPrefix : List ℕ → List ℕ → Type 0
+IsPrefix prefix whole = (rest : List ℕ) × (prefix ++ rest ≡ whole)
 
--- The sink took a front of these bytes.
-abbrev pub AppendsFront : Option (List ℕ) → Option (List ℕ) → List ℕ → Type 0
-AppendsFront old new bytes = (front : List ℕ) × IsFront front bytes × Appends old new front
+-- The sink took a prefix of these bytes.
+abbrev pub AppendsPrefix : Option (List ℕ) → Option (List ℕ) → List ℕ → Type 0
+AppendsPrefix old new bytes = (prefix : List ℕ) × IsPrefix prefix bytes × Appends old new prefix

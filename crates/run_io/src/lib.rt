@@ -21,6 +21,3 @@ pub use source::{Failed, Source};
 pub use standard::{StdSink, StdSource};
 pub use sure::{SureSink, SureSource};
 pub use writing::{WriteEnd, write_piece};
-
-#[cfg(test)]
-mod tests;

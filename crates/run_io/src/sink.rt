@@ -15,7 +15,7 @@ pub trait Sink {
 
     ghost zeros: { Self → ℕ };
 
-    /// Takes bytes from the front of the piece and answers how many. `Failed` comes only where the
+    /// Takes bytes from the prefix of the piece and answers how many. `Failed` comes only where the
     /// count of faults rose, and then it took nothing.
     fn write(&mut self, bytes: &[u8]) -> Result<usize, Failed>
         ensures bound { IfOk result (λ count. count ≤ length bytes.now) }

@@ -14,7 +14,7 @@ pub trait Source {
 
     ghost faults: { Self → ℕ };
 
-    /// Puts bytes at the front of `buf` and answers how many. They are the front of what was left.
+    /// Puts bytes at the prefix of `buf` and answers how many. They are the prefix of what was left.
     /// An answer of 0 for a buffer that isn't empty is the end of the input. `Failed` comes only
     /// where the count of faults rose, and then what is left stays.
     fn read(&mut self, buf: &mut [u8]) -> Result<usize, Failed>

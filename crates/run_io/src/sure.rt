@@ -60,14 +60,14 @@ impl Source for SureSource {
         ensures count { result ≡ Ok (min (length self.old) (length buf.old)) }
         ensures after { IfOk result (λ count. self.new ≡ drop count self.old) }
     {
-        let count = copy_front(&self.bytes.as_slice()[self.given..], buf);
+        let count = copy_prefix(&self.bytes.as_slice()[self.given..], buf);
         self.given += count;
         Ok(count)
     }
 }
 
 /// Copies as many bytes as both have, and returns how many.
-fn copy_front(from: &[u8], to: &mut [u8]) -> usize
+fn copy_prefix(from: &[u8], to: &mut [u8]) -> usize
     ensures count { result ≡ min (length from.now) (length to.old) }
     ensures copied { to.new ≡ take result from.now ++ drop result to.old }
 {

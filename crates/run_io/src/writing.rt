@@ -3,7 +3,7 @@
 ghost use Rattle.std.specs.Prelude.{◌≡◌, ◌≤◌, [], IsOk, IsErrOf, OnOk, OnErr};
 ghost use Rattle.std.specs.Io.KnownBytes.{Appends};
 ghost use Rattle.run_io.specs.Causes.{Rose};
-ghost use Rattle.run_io.specs.Moves.{AppendsFront};
+ghost use Rattle.run_io.specs.Moves.{AppendsPrefix};
 
 use crate::sink::Sink;
 use crate::source::Failed;
@@ -17,7 +17,7 @@ pub enum WriteEnd {
     Took0,
 }
 
-/// Writes a piece whole. After a refusal the sink took a front of it. Nothing is asked of the sink
+/// Writes a piece whole. After a refusal the sink took a prefix of it. Nothing is asked of the sink
 /// for an empty piece. It takes no memory.
 ///
 /// # Errors
@@ -25,7 +25,7 @@ pub enum WriteEnd {
 /// `Fault` where the sink failed, and `Took0` where it took nothing of what was left.
 pub fn write_piece<K: Sink>(sink: &mut K, bytes: &[u8]) -> Result<(), WriteEnd>
     ensures whole { OnOk result (Appends (K.held sink.old) (K.held sink.new) bytes.now) }
-    ensures front { OnErr result (AppendsFront (K.held sink.old) (K.held sink.new) bytes.now) }
+    ensures prefix { OnErr result (AppendsPrefix (K.held sink.old) (K.held sink.new) bytes.now) }
     ensures empty { bytes.now ≡ [] → IsOk result × (sink.new ≡ sink.old) }
     ensures faults_later { K.faults sink.old ≤ K.faults sink.new }
     ensures zeros_later { K.zeros sink.old ≤ K.zeros sink.new }

@@ -9,7 +9,7 @@ use Rattle.small_programs.specs.declared.small.SmallConst.{SmallConst}
 use Rattle.small_search.specs.declared.closing.Closing.{Closing}
 use Rattle.small_search.specs.Closings.{Closings}
 use Rattle.small_search.proofs.Lists.{slice_get-push_cases}
-use Rattle.small_answers.specs.Chosen.{IsChosen, gives_none, GivesTerms}
+use Rattle.small_answers.specs.Chosen.{IsChosenForest, gives_none, GivesTerms}
 use Rattle.small_answers.specs.Copies.{AreGiven, IsGiven, AreTerms}
 use Rattle.small_answers.proofs.Ranks.{StandsAt}
 use Rattle.small_answers.proofs.TableTerms.{GivesTerms-push, GivesTerm-chosen}
@@ -32,7 +32,7 @@ module _ (program : SmallProgram) (closings : List (Option Closing)) where
         (GivesTerms-push program closings goals some.numbers one.numbers goal (spine_of terms) (term_of term) some.gives one.gives);
   }
 
-  pub AreGiven-chosen : (family rule number : ℕ) (declared : SmallConst) (terms : Spine) → IsChosen program closings family rule number declared → AreGiven program closings declared.binders terms → AreGiven program closings (family ∷ []) (arg (at (constant number) terms) no_args)
+  pub AreGiven-chosen : (family rule number : ℕ) (declared : SmallConst) (terms : Spine) → IsChosenForest program closings family rule number declared → AreGiven program closings declared.binders terms → AreGiven program closings (family ∷ []) (arg (at (constant number) terms) no_args)
   AreGiven-chosen family rule number declared terms chosen under = record {
     numbers = rule ∷ under.numbers;
     gives = GivesTerm-chosen program closings family rule number declared under.numbers terms chosen under.gives;

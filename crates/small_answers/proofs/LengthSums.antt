@@ -7,22 +7,22 @@ use Rattle.lf_definitions.specs.Syntax.{at, constant, no_args, arg, joined}
 use Rattle.lf_definitions.specs.Signatures.{name_at}
 use Rattle.small_programs.specs.declared.small.SmallProgram.{SmallProgram}
 use Rattle.small_programs.specs.declared.small.SmallConst.{SmallConst}
-use Rattle.small_programs.specs.Names.{constant_names, rule_names}
+use Rattle.small_programs.specs.Names.{small_constant_names, small_rule_names}
 use Rattle.small_search.specs.declared.closing.Closing.{Closing}
 use Rattle.small_search.specs.Closings.{Closings}
 use Rattle.std.proofs.lemmas.List.{get_or_default}
 use Rattle.std.proofs.lemmas.Option.{slice_get_read}
 use Rattle.small_search.proofs.Lists.{slice_get-push_cases}
 use Rattle.small_answers.specs.declared.lengths.Length.{Length}
-use Rattle.small_answers.specs.Texts.{has_args, in_parentheses, term_text, args_text, step_line, script_text}
-use Rattle.small_answers.specs.Chosen.{IsChosen, gives_none}
+use Rattle.small_answers.specs.Texts.{has_args, parenthesized, closed_term_text, closed_args_text, step_line, script_text}
+use Rattle.small_answers.specs.Chosen.{IsChosenForest, gives_none}
 use Rattle.small_answers.specs.Lengths.{most, IsSums, IsLength, AreLengths}
 use Rattle.small_answers.proofs.Ranks.{StandsAt}
 use Rattle.small_answers.proofs.TableTerms.{GivesTerms-join, GivesTerm-chosen}
 use Rattle.small_answers.proofs.TermTexts.{args_text-joined, name_of_constant, args_of_binders, some_below}
 
 -- an argument has a space more than its text, and two parentheses if it has arguments
-argument_length : (is_nested : Bool) (text : List ℕ) → length ((codes " " ++ in_parentheses is_nested text) ++ []) ≡ length text + (if is_nested then 3 else 1)
+argument_length : (is_nested : Bool) (text : List ℕ) → length ((codes " " ++ parenthesized is_nested text) ++ []) ≡ length text + (if is_nested then 3 else 1)
 argument_length true text = omega (arith, ap length (append-nil (codes " " ++ (codes "(" ++ text ++ codes ")"))), length-append text (codes ")"))
 argument_length false text = omega (arith, ap length (append-nil (codes " " ++ text)))
 
@@ -42,45 +42,45 @@ module _ (program : SmallProgram) (closings : List (Option Closing)) where
   pub IsSums-push : (goals : List ℕ) (goal args steps args' steps' : ℕ) (entry : Length) → IsSums program closings goals args steps → IsLength program closings goal entry →
       args' ≡ min (args + entry.argument) most → steps' ≡ min (steps + entry.script) most → IsSums program closings (goals ++ goal ∷ []) args' steps'
   IsSums-push goals goal args steps args' steps' entry sums one p q =
-      let names = constant_names program.constants in
-      let rules = rule_names program.rules in
-      let more : args_text names (joined sums.terms (arg one.term no_args)) ≡ args_text names sums.terms ++ args_text names (arg one.term no_args) = args_text-joined names sums.terms (arg one.term no_args) in
+      let names = small_constant_names program.constants in
+      let rules = small_rule_names program.rules in
+      let more : closed_args_text names (joined sums.terms (arg one.term no_args)) ≡ closed_args_text names sums.terms ++ closed_args_text names (arg one.term no_args) = args_text-joined names sums.terms (arg one.term no_args) in
       let lines : script_text rules (sums.numbers ++ one.numbers) ≡ script_text rules sums.numbers ++ script_text rules one.numbers = flat_map-append (step_line rules) sums.numbers one.numbers in
       record {
         numbers = sums.numbers ++ one.numbers;
         terms = joined sums.terms (arg one.term no_args);
         gives = GivesTerms-join program closings goals (goal ∷ []) sums.numbers one.numbers sums.terms (arg one.term no_args) sums.gives one.gives;
-        args_is = summed args entry.argument args' (length (args_text names sums.terms)) (length (args_text names (arg one.term no_args))) (length (args_text names (joined sums.terms (arg one.term no_args))))
-            sums.args_is one.argument_is p (ap length more ∙ length-append (args_text names sums.terms) (args_text names (arg one.term no_args)));
+        args_is = summed args entry.argument args' (length (closed_args_text names sums.terms)) (length (closed_args_text names (arg one.term no_args))) (length (closed_args_text names (joined sums.terms (arg one.term no_args))))
+            sums.args_is one.argument_is p (ap length more ∙ length-append (closed_args_text names sums.terms) (closed_args_text names (arg one.term no_args)));
         steps_is = summed steps entry.script steps' (length (script_text rules sums.numbers)) (length (script_text rules one.numbers)) (length (script_text rules (sums.numbers ++ one.numbers)))
             sums.steps_is one.script_is q (ap length lines ∙ length-append (script_text rules sums.numbers) (script_text rules one.numbers));
       }
 
-  pub IsLength-chosen : (family rule number args steps : ℕ) (declared : SmallConst) (entry : Length) (rule_text : List ℕ) → IsChosen program closings family rule number declared → IsSums program closings declared.binders args steps →
-      rule_text ≡ name_at (rule_names program.rules) rule →
+  pub IsLength-chosen : (family rule number args steps : ℕ) (declared : SmallConst) (entry : Length) (rule_text : List ℕ) → IsChosenForest program closings family rule number declared → IsSums program closings declared.binders args steps →
+      rule_text ≡ name_at (small_rule_names program.rules) rule →
       entry.term ≡ min (min (length declared.name) most + args) most →
       entry.argument ≡ min (entry.term + (if nat_lt 0 (length declared.binders) then 3 else 1)) most →
       entry.script ≡ min (min (min (length rule_text) most + 13) most + steps) most → IsLength program closings family entry
   IsLength-chosen family rule number args steps declared entry rule_text chosen sums named p q r =
-      let names = constant_names program.constants in
-      let rules = rule_names program.rules in
+      let names = small_constant_names program.constants in
+      let rules = small_rule_names program.rules in
       let is : slice_get program.constants number ≡ Some declared = ap (slice_get program.constants) (sym chosen.number_is) ∙ chosen.is_rule.constant_is in
       let name : name_at names number ≡ declared.name = name_of_constant program.constants number declared is in
       let term = at (constant number) sums.terms in
       let nested : nat_lt 0 (length declared.binders) ≡ has_args term = args_of_binders program closings number declared.binders sums.numbers sums.terms sums.gives in
-      let size : length (term_text names term) ≡ length declared.name + length (args_text names sums.terms) = length-append (name_at names number) (args_text names sums.terms) ∙ ap (λ (t : List ℕ). length t + length (args_text names sums.terms)) name in
-      let outer : length (args_text names (arg term no_args)) ≡ length (term_text names term) + (if has_args term then 3 else 1) = argument_length (has_args term) (term_text names term) in
+      let size : length (closed_term_text names term) ≡ length declared.name + length (closed_args_text names sums.terms) = length-append (name_at names number) (closed_args_text names sums.terms) ∙ ap (λ (t : List ℕ). length t + length (closed_args_text names sums.terms)) name in
+      let outer : length (closed_args_text names (arg term no_args)) ≡ length (closed_term_text names term) + (if has_args term then 3 else 1) = argument_length (has_args term) (closed_term_text names term) in
       let around : Bool → ℕ = λ b. if b then 3 else 1 in
       let extra : around (nat_lt 0 (length declared.binders)) ≡ around (has_args term) = ap around nested in
       let lines : length (script_text rules (rule ∷ sums.numbers)) ≡ (length rule_text + 13) + length (script_text rules sums.numbers) =
       line_length (name_at rules rule) (script_text rules sums.numbers) ∙ ap (λ (t : List ℕ). (length t + 13) + length (script_text rules sums.numbers)) (sym named) in
-      let term_is : entry.term ≡ min (length (term_text names term)) most = omega (arith, p, sums.args_is, size) in
+      let term_is : entry.term ≡ min (length (closed_term_text names term)) most = omega (arith, p, sums.args_is, size) in
       record {
         numbers = rule ∷ sums.numbers;
         term = term;
         gives = GivesTerm-chosen program closings family rule number declared sums.numbers sums.terms chosen sums.gives;
         term_is = term_is;
-        argument_is = more_by entry.term entry.argument (length (term_text names term)) (length (args_text names (arg term no_args))) (if nat_lt 0 (length declared.binders) then 3 else 1) (if has_args term then 3 else 1) term_is q outer extra;
+        argument_is = more_by entry.term entry.argument (length (closed_term_text names term)) (length (closed_args_text names (arg term no_args))) (if nat_lt 0 (length declared.binders) then 3 else 1) (if has_args term then 3 else 1) term_is q outer extra;
         script_is = omega (arith, r, sums.steps_is, lines);
       }
 

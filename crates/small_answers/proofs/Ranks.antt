@@ -5,7 +5,7 @@ use Rattle.small_programs.specs.declared.small.SmallConst.{SmallConst}
 use Rattle.small_search.specs.declared.closing.Closing.{Closing}
 use Rattle.small_search.specs.Closings.{Closings, closing_of, IsClosings, IsClosedAt, IsClosedBelow}
 use Rattle.small_search.proofs.Options.{some_from_map}
-use Rattle.small_answers.specs.Chosen.{IsChosen}
+use Rattle.small_answers.specs.Chosen.{IsChosenForest}
 
 -- The family stands at this rank, among the first, this many.
 pub record StandsAt (order : List ℕ) (count family rank : ℕ) : Type 0 where
@@ -14,7 +14,7 @@ pub record StandsAt (order : List ℕ) (count family rank : ℕ) : Type 0 where
 
 -- the binder at a place of what is chosen at a rank stands before it
 pub StandsAt-binder : (program : SmallProgram) (table : Closings) (count family rule number : ℕ) (declared : SmallConst) (binders : List ℕ) (i rank : ℕ) →
-    IsClosings program table.by_family table.order → IsClosedAt table.by_family count family → IsChosen program table.by_family family rule number declared →
+    IsClosings program table.by_family table.order → IsClosedAt table.by_family count family → IsChosenForest program table.by_family family rule number declared →
     binders ≡ declared.binders → i < length binders → Some rank ≡ option_map (λ (c : Closing). c.rank) (closing_of table.by_family (get_or binders i 0)) →
     StandsAt table.order count (get_or binders i 0) rank
 StandsAt-binder program table count family rule number declared binders i rank closings last chosen same within finds =

@@ -12,7 +12,7 @@ use Rattle.small_search.specs.Derivations.{IsRule}
 use Rattle.small_search.specs.DerivationTerms.{HasTerms, no_terms, one_term}
 use Rattle.small_search.specs.Closings.{closing_of, IsClosings, IsClosedBelow}
 use Rattle.small_search.proofs.DerivationTerms.{HasTerms-join, HasTerms-count, IsRule-one}
-use Rattle.small_answers.specs.Chosen.{IsChosen, GivesTerms, gives_none, gives_one, GivesTerm, IsRuleNumber}
+use Rattle.small_answers.specs.Chosen.{IsChosenForest, GivesTerms, gives_none, gives_one, GivesTerm, IsRuleNumber}
 
 module _ (program : SmallProgram) (closings : List (Option Closing)) where
   -- What is chosen for a family is one.
@@ -21,7 +21,7 @@ module _ (program : SmallProgram) (closings : List (Option Closing)) where
     pub numbers : number ≡ number'
     pub constants : declared ≡ declared'
 
-  pub IsChosen-one : (family rule rule' number number' : ℕ) (declared declared' : SmallConst) → IsChosen program closings family rule number declared → IsChosen program closings family rule' number' declared' → AreOne rule rule' number number' declared declared'
+  pub IsChosen-one : (family rule rule' number number' : ℕ) (declared declared' : SmallConst) → IsChosenForest program closings family rule number declared → IsChosenForest program closings family rule' number' declared' → AreOne rule rule' number number' declared declared'
   IsChosen-one family rule rule' number number' declared declared' p q =
       let same : Some p.closing ≡ Some q.closing = sym p.closes ∙ q.closes in
       let closing : p.closing ≡ q.closing = cc in
@@ -87,7 +87,7 @@ module _ (program : SmallProgram) (closings : List (Option Closing)) where
 
   -- a goal by what closes it, and the terms of its binders
   pub GivesTerm-chosen : (family rule number : ℕ) (declared : SmallConst) (numbers : List ℕ) (terms : Spine) →
-      IsChosen program closings family rule number declared → GivesTerms program closings declared.binders numbers terms → GivesTerm program closings family (rule ∷ numbers) (at (constant number) terms)
+      IsChosenForest program closings family rule number declared → GivesTerms program closings declared.binders numbers terms → GivesTerm program closings family (rule ∷ numbers) (at (constant number) terms)
   GivesTerm-chosen family rule number declared numbers terms chosen under =
       gives_one family rule number declared [] numbers [] numbers terms no_args chosen under gives_none (sym (append-nil numbers))
 
@@ -98,7 +98,7 @@ module _ (program : SmallProgram) (closings : List (Option Closing)) where
 -- ---- each closed family has a term
 
 module _ (program : SmallProgram) (closings : List (Option Closing)) (order : List ℕ) (table : IsClosings program closings order) where
-  pub IsChosen-closing : (family : ℕ) (closing : Closing) → closing_of closings family ≡ Some closing → (rule : ℕ) × (number : ℕ) × (declared : SmallConst) × IsChosen program closings family rule number declared
+  pub IsChosen-closing : (family : ℕ) (closing : Closing) → closing_of closings family ≡ Some closing → (rule : ℕ) × (number : ℕ) × (declared : SmallConst) × IsChosenForest program closings family rule number declared
   IsChosen-closing family closing closes =
       let by = table.closed family closing closes in
       let choice = by.choice in (

@@ -2,9 +2,9 @@
 use Rattle.std.specs.Prelude.{◌≡◌, ℕ, List, ◌++◌, Option}
 use Rattle.lf_definitions.specs.Syntax.{LfTerm, Spine}
 use Rattle.small_programs.specs.declared.small.SmallProgram.{SmallProgram}
-use Rattle.small_programs.specs.Names.{constant_names}
+use Rattle.small_programs.specs.Names.{small_constant_names}
 use Rattle.small_search.specs.declared.closing.Closing.{Closing}
-use Rattle.small_answers.specs.Texts.{term_text, args_text}
+use Rattle.small_answers.specs.Texts.{closed_term_text, closed_args_text}
 use Rattle.small_answers.specs.Chosen.{GivesTerm, GivesTerms}
 
 -- The numbers that close the goals are added.
@@ -19,11 +19,11 @@ pub record AddsArgs (program : SmallProgram) (closings : List (Option Closing)) 
   pub numbers : List ℕ
   pub terms : Spine
   pub gives : GivesTerms program closings goals numbers terms
-  pub added : new ≡ old ++ args_text (constant_names program.constants) terms
+  pub added : new ≡ old ++ closed_args_text (small_constant_names program.constants) terms
 
 -- The text of the term that closes the goal is added.
 pub record AddsTerm (program : SmallProgram) (closings : List (Option Closing)) (goal : ℕ) (old new : List ℕ) : Type 0 where
   pub numbers : List ℕ
   pub term : LfTerm
   pub gives : GivesTerm program closings goal numbers term
-  pub added : new ≡ old ++ term_text (constant_names program.constants) term
+  pub added : new ≡ old ++ closed_term_text (small_constant_names program.constants) term

@@ -9,7 +9,7 @@ use Rattle.small_search.specs.Derivations.{IsRule}
 use Rattle.small_search.specs.Closings.{closing_of, IsClosedBelow}
 
 -- The rule of this number closes the family, by the constant of this number, after the families of its binders.
-pub record IsChosen (program : SmallProgram) (closings : List (Option Closing)) (family rule number : ℕ) (declared : SmallConst) : Type 0 where
+pub record IsChosenForest (program : SmallProgram) (closings : List (Option Closing)) (family rule number : ℕ) (declared : SmallConst) : Type 0 where
   pub closing : Closing
   pub closes : closing_of closings family ≡ Some closing
   pub rule_is : closing.rule ≡ rule
@@ -23,7 +23,7 @@ pub record IsChosen (program : SmallProgram) (closings : List (Option Closing)) 
 pub data GivesTerms (program : SmallProgram) (closings : List (Option Closing)) : (goals numbers : List ℕ) → Spine → Type 0 where
   gives_none : GivesTerms program closings [] [] no_args
   gives_one : (goal rule number : ℕ) (declared : SmallConst) (goals below rest numbers : List ℕ) (args others : Spine) →
-      IsChosen program closings goal rule number declared →
+      IsChosenForest program closings goal rule number declared →
       GivesTerms program closings declared.binders below args → GivesTerms program closings goals rest others → numbers ≡ below ++ rest →
       GivesTerms program closings (goal ∷ goals) (rule ∷ numbers) (arg (at (constant number) args) others)
 

@@ -13,22 +13,22 @@ has_args (lam b) = false
 has_args (at h no_args) = false
 has_args (at h (arg t ts)) = true
 
-abbrev pub in_parentheses : Bool → List ℕ → List ℕ
-in_parentheses true text = codes "(" ++ text ++ codes ")"
-in_parentheses false text = text
+abbrev pub parenthesized : Bool → List ℕ → List ℕ
+parenthesized true text = codes "(" ++ text ++ codes ")"
+parenthesized false text = text
 
 -- The text of a term whose heads are constants, as those of small programs are: the head's name, and then for each
 -- argument a space and the argument, which stands in parentheses unless it has no arguments.
 abbrev mutual
-  pub term_text : (names : List (List ℕ)) → LfTerm → List ℕ
-  term_text names (lam b) = []
-  term_text names (at (bound n) args) = []
-  term_text names (at (metavariable n) args) = []
-  term_text names (at (constant number) args) = name_at names number ++ args_text names args
+  pub closed_term_text : (names : List (List ℕ)) → LfTerm → List ℕ
+  closed_term_text names (lam b) = []
+  closed_term_text names (at (bound n) args) = []
+  closed_term_text names (at (metavariable n) args) = []
+  closed_term_text names (at (constant number) args) = name_at names number ++ closed_args_text names args
 
-  pub args_text : (names : List (List ℕ)) → Spine → List ℕ
-  args_text names no_args = []
-  args_text names (arg t ts) = codes " " ++ in_parentheses (has_args t) (term_text names t) ++ args_text names ts
+  pub closed_args_text : (names : List (List ℕ)) → Spine → List ℕ
+  closed_args_text names no_args = []
+  closed_args_text names (arg t ts) = codes " " ++ parenthesized (has_args t) (closed_term_text names t) ++ closed_args_text names ts
 
 -- the line of a step by the rule of this number
 abbrev pub step_line : (names : List (List ℕ)) → ℕ → List ℕ

@@ -2,7 +2,7 @@
 
 ghost use Rattle.std.specs.Prelude.{IsSome};
 ghost use Rattle.small_search.specs.Closings.{closing_of, IsTable};
-ghost use Rattle.small_answers.specs.Chosen.{IsChosen};
+ghost use Rattle.small_answers.specs.Chosen.{IsChosenForest};
 
 use small_programs::{SmallConst, SmallProgram};
 use small_search::{Table, constant_at};
@@ -20,7 +20,7 @@ pub struct Choice<'a> {
 pub fn choice_of<'a>(program: &'a SmallProgram, table: &Table, family: u32) -> Choice<'a>
     requires table { IsTable program.now table.now }
     requires closed { IsSome (closing_of table.now.by_family family) }
-    ensures { IsChosen program.now table.now.by_family family result.rule result.number result.constant.now }
+    ensures { IsChosenForest program.now table.now.by_family family result.rule result.number result.constant.now }
 {
     let Some(rule) = table.rule(family) else {
         unreachable!();

@@ -12,7 +12,7 @@ use small_search::Table;
 
 /// Adds the numbers of the rules that close a closed family, in the order in which they close a list
 /// of goals: the rule of the family, and then those of its binders from left to right. Its time is
-/// linear in how many there are. A list of 2^31 numbers is want of memory.
+/// linear in how many there are. A list of 2^31 numbers is out of memory.
 pub fn append_numbers(
     numbers: &mut Ids,
     program: &SmallProgram,

@@ -2,7 +2,7 @@
 
 ghost use Rattle.std.specs.Prelude.{◌≡◌, ◌++◌, OnOk, All};
 ghost use Rattle.lf_definitions.specs.Signatures.{name_at};
-ghost use Rattle.small_programs.specs.Names.{rule_names};
+ghost use Rattle.small_programs.specs.Names.{small_rule_names};
 ghost use Rattle.small_answers.specs.Chosen.{IsRuleNumber};
 ghost use Rattle.small_answers.specs.Texts.{script_text};
 
@@ -12,7 +12,7 @@ use small_programs::SmallProgram;
 /// The name of the rule of a number.
 pub(crate) fn rule_name(program: &SmallProgram, number: u32) -> &[u8]
     requires { IsRuleNumber program.now number }
-    ensures { result.now ≡ name_at (rule_names program.now.rules) number }
+    ensures { result.now ≡ name_at (small_rule_names program.now.rules) number }
 {
     program.rules.as_slice()[number as usize - 2]
         .name
@@ -26,7 +26,7 @@ pub fn append_script(
     numbers: &[u32],
 ) -> Result<(), NoMemory>
     requires { All (IsRuleNumber program.now) numbers.now }
-    ensures { OnOk result (out.new ≡ out.old ++ script_text (rule_names program.now.rules) numbers.now) }
+    ensures { OnOk result (out.new ≡ out.old ++ script_text (small_rule_names program.now.rules) numbers.now) }
 {
     for number in numbers {
         out.append(b"step unsafe ")?;

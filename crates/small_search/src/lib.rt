@@ -18,6 +18,3 @@ pub use closing::Closing;
 pub use constants::constant_at;
 pub use table::Table;
 pub use worklist::search;
-
-#[cfg(test)]
-mod tests;

@@ -1,7 +1,7 @@
 use Rattle.std.proofs.Common.{subst, arith}
 use Rattle.lf_definitions.proofs.Lists.{take_next}
 use Rattle.aesop_session.specs.Documents.{WritesBlocks}
-use Rattle.aesop_session.proofs.Completion.{WritesBlocks-nothing, WritesBlocks-push, WritesBlocksFront-at, parts_at}
+use Rattle.aesop_session.proofs.Completion.{WritesBlocks-nothing, WritesBlocks-push, WritesBlocksPrefix-at, parts_at}
 use Rattle.aesop_session.proofs.document.write_blocks.Goals as goal
 
 pub loop-theorem-init : goal.loop-theorem-init
@@ -13,7 +13,7 @@ loop-theorem-init g c = record {
 
 pub returns-in-Err-clause-err : goal.returns-in-Err-clause-err
 returns-in-Err-clause-err g c =
-    WritesBlocksFront-at _ _ _ _ _ _ _ _ _ _ c.requires.table
+    WritesBlocksPrefix-at _ _ _ _ _ _ _ _ _ _ c.requires.table
     (parts_at _ _ _ _ c.as_slice-theorem-items.ensures c.loop-theorem-test.true c.theorem-item.is)
     c.loop-theorem.invariant.written c.in-Err.ensures.err
 

@@ -1,5 +1,5 @@
 use Rattle.std.proofs.Common.{inr}
-use Rattle.aesop_session.proofs.Answering.{Answered-document, TakesFront-document, not_read_fault, not_write_fault}
+use Rattle.aesop_session.proofs.Answering.{Answered-document, TakesPrefix-document, not_read_fault, not_write_fault}
 use Rattle.aesop_session.proofs.top.answer.Goals as goal
 
 pub returns-in-Ok-write_document-clause-answered : goal.returns-in-Ok-write_document-clause-answered
@@ -12,7 +12,7 @@ pub returns-in-Ok-write_document-clause-write_fault : goal.returns-in-Ok-write_d
 returns-in-Ok-write_document-clause-write_fault g c = λ e. absurd (not_write_fault _ _ _ _ c.in-Ok-write_document.ensures.ok e)
 
 pub returns-in-Err-Write-clause-answered : goal.returns-in-Err-Write-clause-answered
-returns-in-Err-Write-clause-answered g c = λ left later takes. TakesFront-document left later _ _ _ takes c.in-Err-Write.ensures.err
+returns-in-Err-Write-clause-answered g c = λ left later takes. TakesPrefix-document left later _ _ _ takes c.in-Err-Write.ensures.err
 
 pub returns-clause-answered : goal.returns-clause-answered
-returns-clause-answered g c = λ left later takes. inr (TakesFront-document left later _ _ _ takes c.in-Err-NoMemory.ensures.err)
+returns-clause-answered g c = λ left later takes. inr (TakesPrefix-document left later _ _ _ takes c.in-Err-NoMemory.ensures.err)

@@ -1,6 +1,6 @@
 use Rattle.std.proofs.Common.{◌≡◌, subst}
 use Rattle.aesop_session.specs.declared.input.NoProgram.TheVariants as none
-use Rattle.aesop_session.specs.Serving.{IsNoProgram}
+use Rattle.aesop_session.specs.Inputs.{IsNoProgram}
 use Rattle.aesop_session.proofs.top.prove.Goals as goal
 
 pub returns-in-Ok-clause-answered : goal.returns-in-Ok-clause-answered

@@ -1,7 +1,7 @@
 use Rattle.std.proofs.Common.{◌+◌, ◌*◌}
 use Rattle.file_trees.specs.Trees.{classifier_size}
 use Rattle.file_trees.specs.TypeViews.{binding_of}
-use Rattle.elab_terms.specs.Fronts.{domain_of}
+use Rattle.elab_terms.specs.ReadBinders.{domain_of}
 use Rattle.elab_terms.proofs.binding.+type_place.Given as goal
 
 abbrev pub decreases-type_place : goal.decreases-type_place

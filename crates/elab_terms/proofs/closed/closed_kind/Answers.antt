@@ -1,7 +1,7 @@
 use Rattle.std.proofs.Common.{[], sym, subst}
 use Rattle.lf_definitions.specs.Signatures.{typing_in}
-use Rattle.elab_terms.specs.Knowing.{KnownAt, IsRefusal}
-use Rattle.elab_terms.specs.Sources.{text_in}
+use Rattle.elab_terms.specs.KnownTypes.{KnownAt, IsRefusal}
+use Rattle.elab_terms.specs.FileTexts.{text_in}
 use Rattle.elab_terms.specs.Types.{ReadsKind, RefusesKind}
 use Rattle.elab_terms.proofs.ReadTyped.{FormedKind-ReadsKind, Founded-typing_in}
 use Rattle.elab_terms.proofs.ClosedScopes.{known_closed}

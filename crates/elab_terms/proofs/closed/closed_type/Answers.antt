@@ -1,8 +1,8 @@
 use Rattle.std.proofs.Common.{[], sym, subst}
 use Rattle.lf_definitions.specs.Signatures.{typing_in}
 use Rattle.lf_terms.specs.Types.{type_of}
-use Rattle.elab_terms.specs.Knowing.{KnownAt, IsRefusal}
-use Rattle.elab_terms.specs.Sources.{text_in}
+use Rattle.elab_terms.specs.KnownTypes.{KnownAt, IsRefusal}
+use Rattle.elab_terms.specs.FileTexts.{text_in}
 use Rattle.elab_terms.specs.Types.{ReadsType, RefusesType}
 use Rattle.elab_terms.proofs.ReadTyped.{Formed-ReadsType, Founded-typing_in}
 use Rattle.elab_terms.proofs.ClosedScopes.{known_closed}

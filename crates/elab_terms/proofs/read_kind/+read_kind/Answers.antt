@@ -4,9 +4,9 @@ use Rattle.lf_definitions.specs.Typing.{with_context}
 use Rattle.lf_terms.specs.Types.{types_of}
 use Rattle.file_trees.specs.Trees.{bind}
 use Rattle.file_trees.specs.TypeViews.{last_of}
-use Rattle.elab_terms.specs.Fronts.{RefusesKindAfter}
-use Rattle.elab_terms.specs.Knowing.{typing_of}
-use Rattle.elab_terms.specs.Sources.{text_in}
+use Rattle.elab_terms.specs.ReadBinders.{RefusesKindAfter}
+use Rattle.elab_terms.specs.KnownTypes.{typing_of}
+use Rattle.elab_terms.specs.FileTexts.{text_in}
 use Rattle.elab_terms.specs.Types.{ReadsKind, reads_type_word, refuses_kind_family}
 use Rattle.elab_terms.specs.declared.elab_fault.ElabFault.TheVariants.{Unknown}
 use Rattle.elab_terms.proofs.Lasts.{last_falls}
@@ -20,18 +20,18 @@ pub read_kind_last-returns-in-Fam-clause-refused : goal.read_kind_last-returns-i
 read_kind_last-returns-in-Fam-clause-refused t c =
     let a = c.args in
     let Γ = typing_of a.sig.now a.scope.now in
-    let front = types_of a.types.items in
-    subst (λ l. RefusesKindAfter (text_in a.source.now) a.sig.now a.names.now Γ front (last_of l) (Unknown c.in-Fam.span.start)) (sym c.in-Fam.is)
-    (refuses_kind_family a.names.now (with_context front Γ) c.in-Fam.span c.in-Fam.field-1)
+    let prefix = types_of a.types.items in
+    subst (λ l. RefusesKindAfter (text_in a.source.now) a.sig.now a.names.now Γ prefix (last_of l) (Unknown c.in-Fam.span.start)) (sym c.in-Fam.is)
+    (refuses_kind_family a.names.now (with_context prefix Γ) c.in-Fam.span c.in-Fam.field-1)
 
 pub read_kind_last-returns-in-Star-clause-read : goal.read_kind_last-returns-in-Star-clause-read
 read_kind_last-returns-in-Star-clause-read t c =
     let a = c.args in
     let Γ = typing_of a.sig.now a.scope.now in
-    let front = types_of a.types.items in record {
+    let prefix = types_of a.types.items in record {
       rest = [];
-      whole = sym (append_nil front);
-      read = subst (λ l. ReadsKind (text_in a.source.now) a.sig.now a.names.now (with_context front Γ) (last_of l) []) (sym c.in-Star.is) (reads_type_word a.names.now (with_context front Γ) c.in-Star.field-0);
+      whole = sym (append_nil prefix);
+      read = subst (λ l. ReadsKind (text_in a.source.now) a.sig.now a.names.now (with_context prefix Γ) (last_of l) []) (sym c.in-Star.is) (reads_type_word a.names.now (with_context prefix Γ) c.in-Star.field-0);
     }
 
 pub read_kind_rest-read_kind_last-requires : goal.read_kind_rest-read_kind_last-requires
@@ -46,7 +46,7 @@ read_kind_rest-returns-in-Ok-read_kind_last-clause-read t c =
     let a = c.args in
     let text = text_in a.source.now in
     let Γ = typing_of a.sig.now a.scope.now in
-    let before = types_of a.front.items in
+    let before = types_of a.prefix.items in
     let last = last_of c.parts.result.1.now in
     let opens = c.in-Ok.ensures.read in
     let l = c.in-Ok-read_kind_last.ensures.read in

@@ -3,9 +3,9 @@ use Rattle.lf_definitions.specs.Syntax.{pis}
 use Rattle.lf_definitions.specs.Typing.{with_context}
 use Rattle.lf_terms.specs.Types.{types_of, atom_of}
 use Rattle.file_trees.specs.Trees.{family}
-use Rattle.elab_terms.specs.Fronts.{RefusesAfter}
-use Rattle.elab_terms.specs.Knowing.{typing_of}
-use Rattle.elab_terms.specs.Sources.{text_in}
+use Rattle.elab_terms.specs.ReadBinders.{RefusesAfter}
+use Rattle.elab_terms.specs.KnownTypes.{typing_of}
+use Rattle.elab_terms.specs.FileTexts.{text_in}
 use Rattle.elab_terms.specs.Types.{ReadsType, RefusesType}
 use Rattle.elab_terms.specs.declared.elab_fault.ElabFault.{ElabFault}
 use Rattle.elab_terms.proofs.Reading.{IsRefusal-map}
@@ -16,12 +16,12 @@ returns-in-Err-clause-refused c =
     let a = c.args in
     let text = text_in a.source.now in
     let Γ = typing_of a.sig.now a.scope.now in
-    let front = types_of a.types.items in
+    let prefix = types_of a.types.items in
     let seen = types_of c.as_slice.result.now in
-    let value : seen ≡ front = ap types_of c.as_slice.ensures.value in
+    let value : seen ≡ prefix = ap types_of c.as_slice.ensures.value in
     IsRefusal-map (λ (fault : ElabFault). (count : ℕ) → RefusesType text a.sig.now a.names.now (with_context seen Γ) count (family a.span a.arguments.now) fault)
-    (RefusesAfter text a.sig.now a.names.now Γ front (family a.span a.arguments.now))
-    (λ fault p. subst (λ ctx. RefusesType text a.sig.now a.names.now (with_context ctx Γ) (length front) (family a.span a.arguments.now) fault) value (p (length front))) c.in-Err.fault c.in-Err.ensures.refused
+    (RefusesAfter text a.sig.now a.names.now Γ prefix (family a.span a.arguments.now))
+    (λ fault p. subst (λ ctx. RefusesType text a.sig.now a.names.now (with_context ctx Γ) (length prefix) (family a.span a.arguments.now) fault) value (p (length prefix))) c.in-Err.fault c.in-Err.ensures.refused
 
 pub returns-in_ok-binders-in-Ok-clause-read : goal.returns-in_ok-binders-in-Ok-clause-read
 returns-in_ok-binders-in-Ok-clause-read c =

@@ -20,17 +20,17 @@ use Rattle.lf_terms.proofs.Spines.{args_count-spine_of}
 use Rattle.lf_terms.proofs.ShapeLists.{length-simple_types_of}
 use Rattle.lf_terms.proofs.TypeLists.{length-types_of}
 use Rattle.lf_kernel.specs.Heads.{typing_at, seen_type}
-use Rattle.lf_kernel.specs.Knowing.{binders_scope}
+use Rattle.lf_kernel.specs.ShapedPlaces.{binders_scope}
 use Rattle.lf_kernel.proofs.Expected.{shapes_and_types, shapes_of_read, puts_binder, binder_expected}
 use Rattle.lf_kernel.proofs.Spines.{seen, binders_shaped}
 use Rattle.file_trees.specs.Trees.{tree_size}
 use Rattle.file_trees.specs.TermViews.{tree_of}
 use Rattle.elab_terms.specs.Applied.{arguments_of}
-use Rattle.elab_terms.specs.Knowing.{KnownAt, typing_of}
+use Rattle.elab_terms.specs.KnownTypes.{KnownAt, typing_of}
 use Rattle.elab_terms.specs.Names.{binder_name}
 use Rattle.elab_terms.specs.Names as names
-use Rattle.elab_terms.specs.Passing.{left_of}
-use Rattle.elab_terms.specs.Sources.{text_in}
+use Rattle.elab_terms.specs.Domains.{left_of}
+use Rattle.elab_terms.specs.FileTexts.{text_in}
 use Rattle.elab_terms.specs.Terms.{ReadsTerm, ReadsArguments, reads_none, RefusesTerm, refuses_name, refuses_extra, refuses_in_argument, RefusesArguments}
 use Rattle.elab_terms.specs.declared.elab_fault.ElabFault.TheVariants.{IllTyped}
 use Rattle.elab_terms.proofs.Applications.{argument_size, base_size, never_applied}

@@ -4,8 +4,8 @@ use Rattle.lf_terms.specs.Terms.{spine_of}
 use Rattle.file_trees.specs.Trees.{tree_size}
 use Rattle.file_trees.specs.TermViews.{tree_of}
 use Rattle.elab_terms.specs.Applied.{arguments_of}
-use Rattle.elab_terms.specs.Knowing.{typing_of}
-use Rattle.elab_terms.specs.Sources.{text_in}
+use Rattle.elab_terms.specs.KnownTypes.{typing_of}
+use Rattle.elab_terms.specs.FileTexts.{text_in}
 use Rattle.elab_terms.specs.Terms.{ReadsArguments}
 use Rattle.elab_terms.proofs.Reading.{seen_types}
 use Rattle.elab_terms.proofs.terms.+read.Given as goal

@@ -4,9 +4,9 @@ use Rattle.lf_definitions.specs.Substitution.{stays}
 use Rattle.lf_terms.specs.Terms.{spine_of}
 use Rattle.file_trees.specs.TermViews.{tree_of, trees_of}
 use Rattle.file_trees.specs.Trees as trees
-use Rattle.elab_terms.specs.Knowing.{typing_of}
+use Rattle.elab_terms.specs.KnownTypes.{typing_of}
 use Rattle.elab_terms.specs.Names.{family_of}
-use Rattle.elab_terms.specs.Sources.{text_in}
+use Rattle.elab_terms.specs.FileTexts.{text_in}
 use Rattle.elab_terms.specs.Terms.{ReadsArguments, RefusesArguments}
 use Rattle.elab_terms.specs.Types.{ReadsType, reads_family, RefusesType, refuses_family, refuses_few, refuses_family_argument, refuses_family_extra}
 use Rattle.elab_terms.specs.declared.elab_fault.ElabFault.TheVariants.{IllTyped}

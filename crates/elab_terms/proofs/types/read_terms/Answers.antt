@@ -7,11 +7,11 @@ use Rattle.lf_terms.specs.Terms.{term_of, spine_of}
 use Rattle.lf_terms.specs.Shapes.{simple_types_of}
 use Rattle.lf_terms.specs.Types.{type_of}
 use Rattle.lf_terms.proofs.TypeLists.{length-types_of}
-use Rattle.lf_kernel.specs.Knowing.{binders_scope}
+use Rattle.lf_kernel.specs.ShapedPlaces.{binders_scope}
 use Rattle.lf_kernel.proofs.Expected.{shapes_and_types, shapes_of_read, puts_binder, binder_expected}
 use Rattle.file_trees.specs.TermViews.{tree_of, trees_of}
-use Rattle.elab_terms.specs.Knowing.{KnownAt, typing_of}
-use Rattle.elab_terms.specs.Sources.{text_in}
+use Rattle.elab_terms.specs.KnownTypes.{KnownAt, typing_of}
+use Rattle.elab_terms.specs.FileTexts.{text_in}
 use Rattle.elab_terms.specs.Terms.{ReadsTerm, ReadsArguments, reads_none, RefusesTerm, RefusesArguments}
 use Rattle.elab_terms.proofs.Applications.{length-trees_of, slice_get-trees_of}
 use Rattle.elab_terms.proofs.Applying.{typed_before, argument_read, argument_refused, arguments_read}

@@ -2,8 +2,8 @@ use Rattle.std.proofs.Common.{◌≡◌, length, take}
 use Rattle.lf_definitions.specs.Substitution.{stays}
 use Rattle.lf_terms.specs.Terms.{spine_of}
 use Rattle.file_trees.specs.TermViews.{trees_of}
-use Rattle.elab_terms.specs.Knowing.{typing_of}
-use Rattle.elab_terms.specs.Sources.{text_in}
+use Rattle.elab_terms.specs.KnownTypes.{typing_of}
+use Rattle.elab_terms.specs.FileTexts.{text_in}
 use Rattle.elab_terms.specs.Terms.{ReadsArguments}
 use Rattle.elab_terms.proofs.Reading.{seen_types}
 use Rattle.elab_terms.proofs.types.read_terms.Given as goal

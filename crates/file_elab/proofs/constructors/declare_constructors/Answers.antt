@@ -5,10 +5,10 @@ use Rattle.file_trees.specs.declared.span.Span.{Span}
 use Rattle.file_trees.specs.declared.decl_tree.DeclTree.TheVariants as declarations
 use Rattle.rule_sets.proofs.Over.{list_keeps_over}
 use Rattle.elab_terms.specs.Names.{text_at}
-use Rattle.elab_terms.specs.Sources.{text_in}
+use Rattle.elab_terms.specs.FileTexts.{text_in}
 use Rattle.elab_terms.proofs.Reading.{IsRefusal-map}
 use Rattle.file_elab.specs.Constructors.{RefusesList}
-use Rattle.file_elab.specs.Programming.{RefusesInBook}
+use Rattle.file_elab.specs.ProgramParts.{RefusesInBook}
 use Rattle.file_elab.specs.Programs.{AreNumbers}
 use Rattle.file_elab.proofs.ConstructorLists.{family_within, refusal_of, list_declared, list_refused}
 use Rattle.file_elab.proofs.constructors.declare_constructors.Goals as goal

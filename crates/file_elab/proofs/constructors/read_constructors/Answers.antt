@@ -4,7 +4,7 @@ use Rattle.lf_definitions.proofs.Failures.{conclusion-pis}
 use Rattle.basics.specs.Places.{place_of}
 use Rattle.rule_sets.specs.Refusals.{AreConstructors, HasFamily}
 use Rattle.rule_sets.proofs.Constructors.{has_family, family_had, was_seen, was_unseen}
-use Rattle.elab_terms.specs.Sources.{text_in}
+use Rattle.elab_terms.specs.FileTexts.{text_in}
 use Rattle.file_elab.specs.Programs.{AreNumbers, no_number}
 use Rattle.file_elab.specs.Constructors.{next_unknown, next_again, next_other}
 use Rattle.file_elab.proofs.ConstructorLists.{no_constructors, constant_within, passed_before, not_passed_before, constructors_more, passed_next, numbers_next, refused_next, numbers_all}

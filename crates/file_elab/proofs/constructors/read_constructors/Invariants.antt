@@ -1,6 +1,6 @@
 use Rattle.std.proofs.Common.{◌≡◌, take}
 use Rattle.rule_sets.specs.Refusals.{AreConstructors}
-use Rattle.elab_terms.specs.Sources.{text_in}
+use Rattle.elab_terms.specs.FileTexts.{text_in}
 use Rattle.file_elab.specs.Programs.{AreNumbers}
 use Rattle.file_elab.proofs.constructors.read_constructors.Given as goal
 

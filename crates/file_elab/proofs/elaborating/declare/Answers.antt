@@ -1,9 +1,9 @@
 use Rattle.std.proofs.lemmas.Result.{IfOk-weaker}
 use Rattle.file_trees.specs.declared.decl_tree.DeclTree.TheVariants as declarations
 use Rattle.rule_sets.specs.Refusals.{IsOver}
-use Rattle.elab_terms.specs.Sources.{text_in}
+use Rattle.elab_terms.specs.FileTexts.{text_in}
 use Rattle.file_elab.specs.Theorems.{AreFormed}
-use Rattle.file_elab.specs.Programming.{DeclaresSymbol}
+use Rattle.file_elab.specs.ProgramParts.{DeclaresSymbol}
 use Rattle.file_elab.proofs.Growing.{symbol_keeps_formed, symbol_keeps_over}
 use Rattle.file_elab.proofs.elaborating.declare.Goals as goal
 

@@ -2,7 +2,7 @@ use Rattle.std.proofs.Common.{sym, subst, take_all}
 use Rattle.lf_definitions.proofs.Lists.{take_next}
 use Rattle.rule_sets.specs.Refusals.{IsOver}
 use Rattle.rule_sets.proofs.Over.{first_is_over}
-use Rattle.elab_terms.specs.Sources.{text_in}
+use Rattle.elab_terms.specs.FileTexts.{text_in}
 use Rattle.elab_terms.proofs.Reading.{IsRefusal-map}
 use Rattle.file_elab.specs.ProgramViews.{program_of}
 use Rattle.file_elab.specs.Programs.{DeclaresAll, first_program, Refuses, IsRefused}
@@ -30,7 +30,7 @@ pub loop-declaration-preserved : goal.loop-declaration-preserved
 loop-declaration-preserved c =
     let step = c.in_default.ensures in
     record {
-      made = subst (λ front. DeclaresAll (text_in c.args.source.now) first_program front (program_of c.declare.new.program))
+      made = subst (λ prefix. DeclaresAll (text_in c.args.source.now) first_program prefix (program_of c.declare.new.program))
           (take_next c.args.declarations.now c.loop-declaration.declaration-index c.declaration-item.result c.loop-declaration-test.true c.declaration-item.is)
           (declares_last c.loop-declaration.invariant.made c.declaration-item.result (program_of c.declare.new.program) step.declared);
       formed = step.formed c.loop-declaration.invariant.formed;
@@ -41,7 +41,7 @@ pub returns-clause-program : goal.returns-clause-program
 returns-clause-program c = (
   c.args.source.now.tokens.now,
   c.requires,
-  subst (λ front. DeclaresAll (text_in c.args.source.now) first_program front (program_of c.loop-declaration.program))
+  subst (λ prefix. DeclaresAll (text_in c.args.source.now) first_program prefix (program_of c.loop-declaration.program))
       (take_all c.loop-declaration.declaration-index c.args.declarations.now c.loop-declaration-test.false) c.loop-declaration.invariant.made,
 )
 

@@ -1,6 +1,6 @@
 use Rattle.std.proofs.Common.{take}
 use Rattle.rule_sets.specs.Refusals.{IsOver}
-use Rattle.elab_terms.specs.Sources.{text_in}
+use Rattle.elab_terms.specs.FileTexts.{text_in}
 use Rattle.file_elab.specs.ProgramViews.{program_of}
 use Rattle.file_elab.specs.Programs.{DeclaresAll, first_program}
 use Rattle.file_elab.specs.Theorems.{AreFormed}

@@ -1,10 +1,11 @@
 use Rattle.std.proofs.Common.{sym, subst}
 use Rattle.file_trees.specs.declared.decl_tree.DeclTree.TheVariants as declarations
 use Rattle.rule_sets.specs.Books.{Book}
-use Rattle.elab_terms.specs.Sources.{text_in}
+use Rattle.elab_terms.specs.FileTexts.{text_in}
 use Rattle.elab_terms.proofs.Reading.{IsRefusal-map}
-use Rattle.file_elab.specs.Programming.{program_with, RefusesInBook}
-use Rattle.file_elab.specs.Programs.{RefusesName, most_rules, Declares, declares_rule, refuses_rule_name, refuses_rule_part}
+use Rattle.file_elab.specs.ProgramParts.{program_with, RefusesInBook}
+use Rattle.basics.specs.Limits.{most_rules}
+use Rattle.file_elab.specs.Programs.{RefusesName, Declares, declares_rule, refuses_rule_name, refuses_rule_part}
 use Rattle.file_elab.specs.ReadRules.{names_in, RefusesReady}
 use Rattle.file_elab.specs.Rules.{RefusesRule}
 use Rattle.file_elab.proofs.RuleReading.{ready, ready_refused, reads}

@@ -1,4 +1,4 @@
-use Rattle.elab_terms.specs.Sources.{text_in}
+use Rattle.elab_terms.specs.FileTexts.{text_in}
 use Rattle.file_elab.proofs.RuleReading.{phase_refused, subject_refused, major_refused}
 use Rattle.file_elab.proofs.rules.read_rule.Goals as goal
 

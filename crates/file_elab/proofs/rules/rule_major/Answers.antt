@@ -1,6 +1,6 @@
 use Rattle.std.proofs.Common.{ap}
 use Rattle.elab_terms.specs.declared.elab_fault.ElabFault.TheVariants.{BadRule}
-use Rattle.elab_terms.specs.Sources.{text_in}
+use Rattle.elab_terms.specs.FileTexts.{text_in}
 use Rattle.file_elab.specs.Rules.{major_value}
 use Rattle.file_elab.proofs.rules.rule_major.Goals as goal
 

@@ -4,9 +4,10 @@ use Rattle.basics.specs.Places.{place_of}
 use Rattle.lf_terms.specs.Types.{type_of}
 use Rattle.basics.proofs.NamePlaces.{place_absent}
 use Rattle.file_trees.specs.declared.decl_tree.DeclTree.TheVariants as declarations
-use Rattle.file_elab.specs.Programming.{program_with, RefusesSymbol}
-use Rattle.file_elab.specs.Programs.{RefusesName, most_symbols, Declares, declares_constant, refuses_constant_name, refuses_constant_type}
-use Rattle.elab_terms.specs.Sources.{text_in}
+use Rattle.file_elab.specs.ProgramParts.{program_with, RefusesSymbol}
+use Rattle.basics.specs.Limits.{most_symbols}
+use Rattle.file_elab.specs.Programs.{RefusesName, Declares, declares_constant, refuses_constant_name, refuses_constant_type}
+use Rattle.elab_terms.specs.FileTexts.{text_in}
 use Rattle.elab_terms.specs.Types.{RefusesType}
 use Rattle.elab_terms.proofs.Reading.{IsRefusal-map}
 use Rattle.file_elab.proofs.symbols.declare_constant.Goals as goal

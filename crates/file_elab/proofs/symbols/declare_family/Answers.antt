@@ -3,9 +3,10 @@ use Rattle.lf_definitions.specs.Signatures.{family_entry, names_of, typing_in}
 use Rattle.basics.specs.Places.{place_of}
 use Rattle.basics.proofs.NamePlaces.{place_absent}
 use Rattle.file_trees.specs.declared.decl_tree.DeclTree.TheVariants as declarations
-use Rattle.file_elab.specs.Programming.{program_with, RefusesSymbol}
-use Rattle.file_elab.specs.Programs.{RefusesName, most_symbols, Declares, declares_family, refuses_family_name, refuses_family_kind}
-use Rattle.elab_terms.specs.Sources.{text_in}
+use Rattle.file_elab.specs.ProgramParts.{program_with, RefusesSymbol}
+use Rattle.basics.specs.Limits.{most_symbols}
+use Rattle.file_elab.specs.Programs.{RefusesName, Declares, declares_family, refuses_family_name, refuses_family_kind}
+use Rattle.elab_terms.specs.FileTexts.{text_in}
 use Rattle.elab_terms.specs.Types.{RefusesKind}
 use Rattle.elab_terms.proofs.Reading.{IsRefusal-map}
 use Rattle.file_elab.proofs.symbols.declare_family.Goals as goal

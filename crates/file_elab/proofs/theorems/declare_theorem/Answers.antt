@@ -4,12 +4,13 @@ use Rattle.lf_definitions.specs.Signatures.{kinds_in, typing_in}
 use Rattle.lf_definitions.specs.Typing.{Formed}
 use Rattle.lf_terms.specs.Types.{type_of}
 use Rattle.file_trees.specs.declared.decl_tree.DeclTree.TheVariants as declarations
-use Rattle.elab_terms.specs.Sources.{text_in}
+use Rattle.elab_terms.specs.FileTexts.{text_in}
 use Rattle.elab_terms.specs.Types.{RefusesType}
 use Rattle.elab_terms.proofs.Reading.{IsRefusal-map}
 use Rattle.file_elab.specs.Theorems.{LfTheorem, AreFormed}
-use Rattle.file_elab.specs.Programming.{program_with, RefusesTheorem}
-use Rattle.file_elab.specs.Programs.{RefusesName, most_theorems, Declares, declares_theorem, refuses_theorem_name, refuses_theorem_type}
+use Rattle.file_elab.specs.ProgramParts.{program_with, RefusesTheorem}
+use Rattle.basics.specs.Limits.{most_theorems}
+use Rattle.file_elab.specs.Programs.{RefusesName, Declares, declares_theorem, refuses_theorem_name, refuses_theorem_type}
 use Rattle.file_elab.proofs.theorems.declare_theorem.Goals as goal
 
 pub returns-in-Err-clause-refused : goal.returns-in-Err-clause-refused

@@ -11,7 +11,7 @@ use Rattle.lf_terms.specs.Types.{type_of, types_of}
 use Rattle.lf_terms.proofs.Spines.{item_size}
 use Rattle.lf_terms.proofs.Abstractions.{term_size-lams}
 use Rattle.lf_kernel.specs.Heads.{typing_at, seen_type}
-use Rattle.lf_kernel.specs.Knowing.{binders_scope}
+use Rattle.lf_kernel.specs.ShapedPlaces.{binders_scope}
 use Rattle.lf_kernel.proofs.Arguments.{typed_start, typed_more, typed_end, argument_fails, length-take_within}
 use Rattle.lf_kernel.proofs.Expected.{terms_and_types, shapes_and_types, shapes_of_read, puts_binder, binder_expected}
 use Rattle.lf_kernel.proofs.Spines.{lam_fails, head_fails, count_fails, argument_of_spine_fails, binders_shaped, puts_result, spine_is_typed, result_fails, gives_it, gives_another}

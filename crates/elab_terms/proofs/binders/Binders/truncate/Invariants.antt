@@ -1,5 +1,0 @@
-use Rattle.std.proofs.Common.{◌≡◌, ◌-◌, drop}
-use Rattle.elab_terms.proofs.binders.Binders.truncate.Given as goal
-
-abbrev pub invariant-loop : goal.invariant-loop
-invariant-loop l = l.self ≡ drop (l.counter - l.count) l.initial.self
