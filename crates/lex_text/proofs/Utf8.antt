@@ -39,15 +39,15 @@ longer_prefix bytes rest n c short e =
 none_at_first_fault : (bytes : List ℕ) (n : ℕ) → IsValidUpTo bytes n → (c : ℕ) (rest : List ℕ) → IsScalar c → encode_utf8 c ++ rest ≢ drop n bytes
 none_at_first_fault bytes n h c rest scalar e =
     h.longest (n + len_utf8 c) (let bounds = len_utf8_bounds c in omega arith)
-    (subst IsUtf8 (sym (longer_prefix bytes rest n c h.short e)) (IsUtf8-append (take n bytes) (encode_utf8 c) h.prefix (IsUtf8-encode c scalar)))
+    (subst IsUtf8 (sym (longer_prefix bytes rest n c h.short e)) (IsUtf8-append (take n bytes) (encode_utf8 c) h.front (IsUtf8-encode c scalar)))
 
 pub NotUtf8At-from_valid : (bytes : List ℕ) (n : ℕ) → IsValidUpTo bytes n → NotUtf8At bytes n
 NotUtf8At-from_valid bytes n h =
-    let prefix = h.prefix.0 in
-    let spelled = h.prefix.1.1 in (
+    let prefix = h.front.0 in
+    let spelled = h.front.1.1 in (
       prefix,
       drop n bytes,
-      scalars_all prefix h.prefix.1.0,
+      scalars_all prefix h.front.1.0,
       ap (λ f. f ++ drop n bytes) spelled ∙ take-append-drop n bytes,
       ap length spelled ∙ length-take-le n bytes (let short = h.short in omega arith),
       record {
