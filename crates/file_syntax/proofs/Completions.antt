@@ -8,8 +8,8 @@ use Rattle.file_syntax.specs.declared.terminal.Terminal.TheVariants.{TypeWord, W
 use Rattle.file_trees.specs.declared.decl_tree.DeclTree.{DeclTree}
 use Rattle.file_trees.specs.declared.decl_tree.PhaseWord.{PhaseWord}
 use Rattle.file_trees.specs.declared.decl_tree.BuildWord.{BuildWord}
-use Rattle.file_syntax.specs.declared.state.Goal.{Purpose}
-use Rattle.file_syntax.specs.declared.state.Goal.TheVariants.{Family as goal_family, Const as goal_const, Theorem as goal_theorem}
+use Rattle.file_syntax.specs.declared.state.Purpose.{Purpose}
+use Rattle.file_syntax.specs.declared.state.Purpose.TheVariants.{Family as goal_family, Const as goal_const, Theorem as goal_theorem}
 use Rattle.file_syntax.specs.declared.state.RulePart.{RulePart}
 use Rattle.file_syntax.specs.declared.state.RulePart.TheVariants.{ToName, ToColon, ToPhase, ToNumber, ToBuilder, ToSubject, PastSubject, ToMajor, PastMajor, ToSet, PastSet}
 use Rattle.file_syntax.specs.declared.state.Owner.{Owner}

@@ -8,7 +8,7 @@ use Rattle.file_trees.specs.declared.decl_tree.DeclTree.{DeclTree}
 use Rattle.file_trees.specs.declared.decl_tree.DeclTree.TheVariants.{Family as family_tree, Const as const_tree, Theorem as theorem_tree}
 use Rattle.file_trees.specs.declared.decl_tree.PhaseWord.{PhaseWord}
 use Rattle.file_trees.specs.declared.decl_tree.BuildWord.{BuildWord}
-use Rattle.file_syntax.specs.declared.state.Goal.TheVariants.{Family as goal_family, Const as goal_const, Theorem as goal_theorem}
+use Rattle.file_syntax.specs.declared.state.Purpose.TheVariants.{Family as goal_family, Const as goal_const, Theorem as goal_theorem}
 use Rattle.file_syntax.specs.declared.state.RuleHead.{RuleHead}
 use Rattle.file_syntax.specs.declared.state.RulePart.TheVariants.{PastSubject}
 use Rattle.file_syntax.specs.declared.state.Owner.{Owner}

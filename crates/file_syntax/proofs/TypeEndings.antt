@@ -6,7 +6,7 @@ use Rattle.file_syntax.specs.declared.terminal.Terminal.{Terminal}
 use Rattle.file_syntax.specs.declared.terminal.Terminal.TheVariants.{TypeWord, Word, Var, Colon, Dot, Arrow, LParen, RParen, LBrace, RBrace}
 use Rattle.file_trees.specs.declared.decl_tree.DeclTree.{DeclTree}
 use Rattle.file_trees.specs.declared.decl_tree.DeclTree.TheVariants.{Family as family_tree}
-use Rattle.file_syntax.specs.declared.state.Goal.TheVariants.{Family as goal_family}
+use Rattle.file_syntax.specs.declared.state.Purpose.TheVariants.{Family as goal_family}
 use Rattle.file_syntax.specs.declared.state.Owner.TheVariants.{Family as of_family}
 use Rattle.file_syntax.specs.declared.state.Top.TheVariants.{Between, TypeStart, PiName, PiColon, GroupEnd, StarEnd}
 use Rattle.file_syntax.specs.declared.state.Frame.{Frame}

@@ -12,8 +12,8 @@ use Rattle.file_trees.specs.declared.decl_tree.BuildWord.{BuildWord}
 use Rattle.file_trees.specs.declared.decl_tree.BuildWord.TheVariants.{Apply, Constructors, Cases, Forward, Destruct}
 use Rattle.file_trees.specs.declared.decl_tree.DeclTree.{DeclTree}
 use Rattle.file_trees.specs.declared.decl_tree.DeclTree.TheVariants.{Family as family_tree, Const as const_tree, Theorem as theorem_tree, Rule as rule_tree, Ctors as ctors_tree}
-use Rattle.file_syntax.specs.declared.state.Goal.{Purpose}
-use Rattle.file_syntax.specs.declared.state.Goal.TheVariants.{Family as a_family, Const as a_const, Theorem as a_theorem}
+use Rattle.file_syntax.specs.declared.state.Purpose.{Purpose}
+use Rattle.file_syntax.specs.declared.state.Purpose.TheVariants.{Family as a_family, Const as a_const, Theorem as a_theorem}
 use Rattle.file_syntax.specs.declared.state.RuleHead.{RuleHead}
 use Rattle.file_syntax.specs.declared.state.RulePart.{RulePart}
 use Rattle.file_syntax.specs.declared.state.RulePart.TheVariants.{ToName, ToColon, ToPhase, ToNumber, ToBuilder, ToSubject, PastSubject, ToMajor, PastMajor, ToSet, PastSet}
