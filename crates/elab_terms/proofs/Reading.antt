@@ -145,7 +145,7 @@ some_type (a ∷ types) (suc c) within = some_type types c (omega arith)
 abbrev HasType : Typing → LfHead → Type 0
 HasType Γ h = (a : LfType) × (Γ h ≡ Some a)
 
-pub head_typed : (sig : LfSignature) (scope : places.LocalContext) (binders : Bound) (name : List ℕ) (h : LfHead) → KnownAt sig (typing_of sig scope) binders → names.head_of sig binders name ≡ Some h → HasType (typing_of sig scope) h
+pub head_typed : (sig : LfSignature) (scope : places.LocalContext) (binders : Bound) (name : List ℕ) (h : LfHead) → KnownAt sig (typing_of sig scope) binders → names.named_head sig binders name ≡ Some h → HasType (typing_of sig scope) h
 head_typed sig scope binders name h known e = by_variable (variable_of binders name) refl
   where
     Γ : Typing
@@ -247,7 +247,7 @@ result_seen found ts n c within count result =
 
 -- An application, by the type of its head.
 module _ (text : Text) (sig : LfSignature) (binders : Bound) (Γ : Typing) (tree : Tree) (span : Span) (h : LfHead) (domains : Context) (f : ℕ) (args ts : Spine)
-    (first : base_of tree ≡ leaf span) (resolved : names.head_of sig binders (text_at text span) ≡ Some h) (known : Γ h ≡ Some (pis domains (family f args))) where
+    (first : base_of tree ≡ leaf span) (resolved : names.named_head sig binders (text_at text span) ≡ Some h) (known : Γ h ≡ Some (pis domains (family f args))) where
   abbrev arguments : List Tree
   arguments = arguments_of tree []
 

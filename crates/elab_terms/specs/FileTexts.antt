@@ -2,9 +2,9 @@
 use Rattle.std.specs.Prelude.{ℕ, ◌<◌, ◌≤◌, List, length, slice_index_or}
 use Rattle.lex_text.specs.declared.token.Token.{Token}
 use Rattle.elab_terms.specs.Names.{Text}
-use Rattle.elab_terms.specs.declared.file_text.FileText.{Source}
+use Rattle.elab_terms.specs.declared.file_text.FileText.{FileText}
 
-abbrev pub text_in : Source → Text
+abbrev pub text_in : FileText → Text
 text_in source = record { bytes = source.bytes.now; tokens = source.tokens.now }
 
 -- Of the tokens so many start before a place, and the others don't.

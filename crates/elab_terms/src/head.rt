@@ -12,7 +12,7 @@ use lf_terms::{Head, Signature};
 /// What a name in a term stands for: the innermost binder that has it, or else a constant. It takes no
 /// memory.
 pub fn head_named(sig: &Signature, binders: &BoundNames, name: &[u8]) -> Option<Head>
-    ensures { option_map head_of result ≡ names.head_of sig.now binders.now name.now }
+    ensures { option_map head_of result ≡ names.named_head sig.now binders.now name.now }
 {
     if let Some(number) = binders.find(name) {
         return Some(Head::Bound(number));

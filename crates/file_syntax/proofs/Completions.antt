@@ -20,7 +20,7 @@ use Rattle.file_syntax.specs.declared.state.Frame.{Frame}
 use Rattle.file_syntax.specs.declared.state.Frame.TheVariants.{Declared, Brace, Group, Argument}
 use Rattle.file_syntax.specs.declared.state.State.{State}
 use Rattle.file_trees.specs.Trees.{Tree, leaf, applied, Classifier, family, star, Binding, pi_of, arrow_of, bind}
-use Rattle.file_syntax.specs.Productions.{joined_arguments, up_to}
+use Rattle.file_syntax.specs.Productions.{joined_spans, up_to}
 use Rattle.file_syntax.specs.Reading.{at_top, went_on, ended, abstracted, close_type, close_kind, close_term, no_argument, term_arguments, family_arguments, stands_at_kind, move, stepped, run}
 use Rattle.file_syntax.specs.Reading.{started, begun, next_part, ended_rule, typed}
 use Rattle.file_syntax.proofs.Endings.{Ends}
@@ -276,7 +276,7 @@ finish_head : (frames : List Frame) → TermOpen frames → (decls : List DeclTr
 finish_head frames f decls binders = after_terminal (Word other_word nowhere) refl (finish_term frames f decls binders (leaf nowhere) [])
 
 finish_bracket : (frames : List Frame) → TermOpen frames → (decls : List DeclTree) (binders : List Span) (bracket : Span) → Completed decls frames (AbsClose binders bracket)
-finish_bracket frames f decls binders bracket = after_terminal (RBracket nowhere) refl (finish_head frames f decls (binders ++ joined_arguments bracket nowhere ∷ []))
+finish_bracket frames f decls binders bracket = after_terminal (RBracket nowhere) refl (finish_head frames f decls (binders ++ joined_spans bracket nowhere ∷ []))
 
 -- Whatever is being read can be completed.
 pub completion : (top : Top) (frames : List Frame) → Fits top frames → (decls : List DeclTree) → Completed decls frames top

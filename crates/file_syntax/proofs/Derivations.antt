@@ -18,7 +18,7 @@ use Rattle.file_syntax.specs.declared.state.Top.TheVariants.{Between, DataNames,
 use Rattle.file_syntax.specs.declared.state.Frame.{Frame}
 use Rattle.file_syntax.specs.declared.state.Frame.TheVariants.{Declared, Brace, Group, Argument}
 use Rattle.file_trees.specs.Trees.{Tree, applied, Classifier, family, star, Binding, pi_of, arrow_of, bind}
-use Rattle.file_syntax.specs.Productions.{joined_arguments, up_to, IsBound, a_name, a_variable, IsTerm, abstracts, applies, IsArgument, name, variable, term, AreArguments, no_more, one_more, IsType, binds, ends, goes_to, IsSimple, family_of, group, IsKind, is_type, kind_binds, kind_goes_to, IsPhase, norm, safe, unsafe, IsBuilder, apply, constructors, cases, forward, destruct, IsMajorPart, no_major, major_at, IsSet, no_set, set_in, AreNames, no_name, one_name, IsDecl, a_family, a_const, a_theorem, some_data, a_rule, IsFile, no_decl, one_decl}
+use Rattle.file_syntax.specs.Productions.{joined_spans, up_to, IsBound, a_name, a_variable, IsTerm, abstracts, applies, IsArgument, name, variable, term, AreArguments, no_more, one_more, IsType, binds, ends, goes_to, IsSimple, family_of, group, IsKind, is_type, kind_binds, kind_goes_to, IsPhase, norm, safe, unsafe, IsBuilder, apply, constructors, cases, forward, destruct, IsMajorPart, no_major, major_at, IsSet, no_set, set_in, AreNames, no_name, one_name, IsDecl, a_family, a_const, a_theorem, some_data, a_rule, IsFile, no_decl, one_decl}
 use Rattle.file_syntax.specs.Reading.{at_top, phase_of, builder_word, with_phase, with_builder, went_on, rule_from, abstracted, close_type, past_arrow, move, run, start}
 use Rattle.file_syntax.proofs.Abstractions.{abstracted_append, bind_append}
 use Rattle.std.proofs.lemmas.List.{append-nil, append_assoc}
@@ -39,7 +39,7 @@ closed-term {rest = rest} {decls = decls} {frames = frames} {owner = owner} {ite
 
 bracket-run : (bound : Terminal) → IsBound bound → (opening closing : Span) (inside : List Terminal) (decls : List DeclTree) (frames : List Frame) (binders : List Span) →
     run (LBracket opening ∷ bound ∷ RBracket closing ∷ inside) (at_top decls frames (Arguments (of_term binders) []))
-    ≡ run inside (at_top decls frames (Arguments (of_term (binders ++ joined_arguments opening closing ∷ [])) []))
+    ≡ run inside (at_top decls frames (Arguments (of_term (binders ++ joined_spans opening closing ∷ [])) []))
 bracket-run _ (a_name word span) opening closing inside decls frames binders = refl
 bracket-run _ (a_variable span) opening closing inside decls frames binders = refl
 
@@ -64,13 +64,13 @@ mutual
   pub term-run : {terminals rest : List Terminal} {tree : Tree} → IsTerm terminals rest tree →
       (decls : List DeclTree) (frames : List Frame) (binders : List Span) → TermEnd terminals rest tree decls frames binders
   term-run (abstracts opening closing bound inside rest body b d) decls frames binders =
-      let e : TermEnd inside rest body decls frames (binders ++ joined_arguments opening closing ∷ []) = term-run d decls frames (binders ++ joined_arguments opening closing ∷ []) in
+      let e : TermEnd inside rest body decls frames (binders ++ joined_spans opening closing ∷ []) = term-run d decls frames (binders ++ joined_spans opening closing ∷ []) in
       record {
         spans = e.spans;
         first = e.first;
         arguments = e.arguments;
         ran = bracket-run bound b opening closing inside decls frames binders ∙ e.ran;
-        tree_is = e.tree_is ∙ abstracted_append binders (joined_arguments opening closing ∷ []) body;
+        tree_is = e.tree_is ∙ abstracted_append binders (joined_spans opening closing ∷ []) body;
       }
   term-run (applies terminals after rest tree arguments d ds) decls frames binders =
       record {

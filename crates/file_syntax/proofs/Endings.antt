@@ -12,7 +12,7 @@ use Rattle.file_syntax.specs.declared.state.Frame.{Frame}
 use Rattle.file_syntax.specs.declared.state.Frame.TheVariants.{Argument}
 use Rattle.file_syntax.specs.declared.state.State.{State}
 use Rattle.file_trees.specs.Trees.{Tree, abstraction, applied}
-use Rattle.file_syntax.specs.Productions.{joined_arguments, IsBound, a_name, a_variable, IsTerm, abstracts, applies, IsArgument, name, variable, term, AreArguments, no_more, one_more}
+use Rattle.file_syntax.specs.Productions.{joined_spans, IsBound, a_name, a_variable, IsTerm, abstracts, applies, IsArgument, name, variable, term, AreArguments, no_more, one_more}
 use Rattle.file_syntax.specs.Reading.{at_top, abstracted, no_argument, stepped}
 use Rattle.file_syntax.proofs.Abstractions.{abstracted_append}
 
@@ -98,7 +98,7 @@ record BracketRead (terminals : List Terminal) (decls : List DeclTree) (frames :
   closing : Span
   rest : List Terminal
   is : Bracketed terminals closing rest
-  go_on : Ends rest (at_top decls frames (Arguments (of_term (binders ++ joined_arguments opening closing ∷ [])) [])) final
+  go_on : Ends rest (at_top decls frames (Arguments (of_term (binders ++ joined_spans opening closing ∷ [])) [])) final
 
 bracket_closed : (bound : Terminal) → IsBound bound → (terminals : List Terminal) {decls : List DeclTree} {frames : List Frame} {binders : List Span} {opening : Span} {final : List DeclTree} →
     Ends terminals (at_top decls frames (AbsClose binders opening)) final → BracketRead (bound ∷ terminals) decls frames binders opening final
@@ -114,16 +114,16 @@ bracket_read (Var span ∷ terminals) h = bracket_closed (Var span) (a_variable 
 bracket_read (_ ∷ terminals) h = absurd (ends_none terminals _ h)
 
 abstracted_read : {terminals rest : List Terminal} {opening closing : Span} {binders : List Span} {decls : List DeclTree} {frames : List Frame} {owner : Owner} {items : List Tree} {final : List DeclTree} →
-    Bracketed terminals closing rest → TermRead rest decls frames (binders ++ joined_arguments opening closing ∷ []) owner items final →
+    Bracketed terminals closing rest → TermRead rest decls frames (binders ++ joined_spans opening closing ∷ []) owner items final →
     TermRead (LBracket opening ∷ terminals) decls frames binders owner items final
 abstracted_read {opening = opening} {binders = binders} {decls = decls} {frames = frames} {owner = owner} {items = items} {final = final} (bracketed bound closing rest b) r =
     record {
-      tree = abstraction (joined_arguments opening closing) r.tree;
+      tree = abstraction (joined_spans opening closing) r.tree;
       closing = r.closing;
       rest = r.rest;
       is = abstracts opening closing bound rest (RParen r.closing ∷ r.rest) r.tree b r.is;
       shorter = omega (arith, r.shorter);
-      go_on = subst (λ t. Ends r.rest (at_top decls frames (Arguments owner (items ++ t ∷ []))) final) (abstracted_append binders (joined_arguments opening closing ∷ []) r.tree) r.go_on;
+      go_on = subst (λ t. Ends r.rest (at_top decls frames (Arguments owner (items ++ t ∷ []))) final) (abstracted_append binders (joined_spans opening closing ∷ []) r.tree) r.go_on;
     }
 
 bracketed_shorter : {terminals rest : List Terminal} {closing : Span} → Bracketed terminals closing rest → length rest < length terminals

@@ -15,8 +15,8 @@ use Rattle.file_trees.specs.declared.decl_tree.DeclTree.TheVariants.{Family as f
 use Rattle.file_trees.specs.Trees.{Tree, leaf, abstraction, applied, Classifier, pi, arrow, family, star}
 
 -- from the start of one part through the end of another
-abbrev pub joined_arguments : Span → Span → Span
-joined_arguments first last = record { start = first.start; end = last.end }
+abbrev pub joined_spans : Span → Span → Span
+joined_spans first last = record { start = first.start; end = last.end }
 
 -- from the start of one part up to the start of another
 abbrev pub up_to : Span → Span → Span
@@ -32,7 +32,7 @@ mutual
   pub data IsTerm : List Terminal → List Terminal → Tree → Type 0 where
     abstracts : (opening closing : Span) (bound : Terminal) (inside rest : List Terminal) (body : Tree) →
         IsBound bound → IsTerm inside rest body →
-        IsTerm (LBracket opening ∷ bound ∷ RBracket closing ∷ inside) rest (abstraction (joined_arguments opening closing) body)
+        IsTerm (LBracket opening ∷ bound ∷ RBracket closing ∷ inside) rest (abstraction (joined_spans opening closing) body)
     applies : (terminals after rest : List Terminal) (tree : Tree) (arguments : List Tree) →
         IsArgument terminals after tree → AreArguments after rest arguments →
         IsTerm terminals rest (applied tree arguments)

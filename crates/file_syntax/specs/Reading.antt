@@ -24,7 +24,7 @@ use Rattle.file_syntax.specs.declared.state.Top.TheVariants.{Between, GoalName, 
 use Rattle.file_syntax.specs.declared.state.Frame.{Frame}
 use Rattle.file_syntax.specs.declared.state.Frame.TheVariants.{Declared, Brace, Group, Argument}
 use Rattle.file_syntax.specs.declared.state.State.{State}
-use Rattle.file_syntax.specs.Productions.{joined_arguments, up_to}
+use Rattle.file_syntax.specs.Productions.{joined_spans, up_to}
 use Rattle.file_trees.specs.Trees.{Tree, leaf, abstraction, applied, Classifier, family, star, Binding, pi_of, arrow_of, bind}
 
 abbrev pub at_top : List DeclTree → List Frame → Top → Option State
@@ -242,7 +242,7 @@ abs_name decls frames binders bracket _ = None
 
 abbrev pub abs_close : List DeclTree → List Frame → List Span → Span → Terminal → Option State
 abs_close decls frames binders bracket (RBracket span) =
-    at_top decls frames (Arguments (of_term (binders ++ joined_arguments bracket span ∷ [])) [])
+    at_top decls frames (Arguments (of_term (binders ++ joined_spans bracket span ∷ [])) [])
 abs_close decls frames binders bracket _ = None
 
 abbrev pub move : List DeclTree → List Frame → Top → Terminal → Option State

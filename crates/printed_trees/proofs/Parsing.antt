@@ -13,7 +13,7 @@ use Rattle.file_trees.specs.Trees as trees
 use Rattle.file_syntax.specs.declared.terminal.Terminal.{Terminal}
 use Rattle.file_syntax.specs.declared.terminal.Terminal.TheVariants as terminals
 use Rattle.file_syntax.specs.Terminals.{keyword_of, terminal_of, terminals_of}
-use Rattle.file_syntax.specs.Productions.{IsTerm, abstracts, applies, IsArgument, name, variable, term, AreArguments, no_more, one_more, IsType, binds, ends, goes_to, IsSimple, family_of, group, a_variable, joined_arguments, up_to}
+use Rattle.file_syntax.specs.Productions.{IsTerm, abstracts, applies, IsArgument, name, variable, term, AreArguments, no_more, one_more, IsType, binds, ends, goes_to, IsSimple, family_of, group, a_variable, joined_spans, up_to}
 use Rattle.lf_definitions.specs.Syntax.{LfHead, bound, constant, metavariable, LfTerm, lam, at, Spine, no_args, arg, LfType, pi, family}
 use Rattle.lf_definitions.specs.Signatures.{LfSignature, names_of, constant_names, family_names, name_at}
 use Rattle.elab_terms.specs.Names.{Text, text_at}
@@ -134,9 +134,9 @@ module _ (text : Text) (sig : LfSignature) (named : AreNamed sig) where
         let bound_span = span_from (place + 1) word in
         let closing = span_from (place + 1 + length word) (codes "]") in
         let body = term_parsed (suc depth) (place + 1 + length word + 1 + 1) b rest printable stand.2.2.2 in (
-          abstraction (joined_arguments opening closing) body.0,
+          abstraction (joined_spans opening closing) body.0,
           abstracts opening closing (terminals.Var bound_span) (terminals_at text (place + 1 + length word + 1 + 1) (term_pieces sig (suc depth) b) ++ rest) rest body.0 (a_variable bound_span) body.1,
-          printed_abstraction depth b (abstraction (joined_arguments opening closing) body.0) (joined_arguments opening closing) body.0 (refl, refl) stand.1 body.2,
+          printed_abstraction depth b (abstraction (joined_spans opening closing) body.0) (joined_spans opening closing) body.0 (refl, refl) stand.1 body.2,
         )
     term_parsed depth place (at h args) rest printable stand =
         let here = Stand-prefix text place (head_piece sig depth h ∷ []) (args_pieces sig depth args) stand in

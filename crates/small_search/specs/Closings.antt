@@ -7,7 +7,7 @@ use Rattle.small_search.specs.declared.closing.Closing.{Closing}
 use Rattle.small_search.specs.Derivations.{IsRule, IsChoice, HasNoDerivation}
 use Rattle.small_search.specs.Parts.{HasDerivation}
 
--- For each family what closes it, and the families that are is_closed, by their ranks.
+-- For each family what closes it, and the families that are closed, by their ranks.
 pub record Closings : Type 0 where
   pub by_family : List (Option Closing)
   pub order : List ℕ
@@ -15,13 +15,13 @@ pub record Closings : Type 0 where
 abbrev pub closing_of : List (Option Closing) → ℕ → Option Closing
 closing_of closings family = slice_index_or closings family None
 
--- The family is is_closed, at a rank below this one.
+-- The family is closed, at a rank below this one.
 pub record IsClosedBelow (closings : List (Option Closing)) (rank family : ℕ) : Type 0 where
   pub closing : Closing
   pub closes : closing_of closings family ≡ Some closing
   pub below : closing.rank < rank
 
--- The family is is_closed at this rank.
+-- The family is closed at this rank.
 pub record IsClosedAt (closings : List (Option Closing)) (rank family : ℕ) : Type 0 where
   pub closing : Closing
   pub closes : closing_of closings family ≡ Some closing
@@ -33,11 +33,11 @@ pub record IsClosing (program : SmallProgram) (closings : List (Option Closing))
   pub choice : IsChoice program family closing.rule left
   pub earlier : All (IsClosedBelow closings closing.rank) left
 
--- Families are is_closed one after another, each by a rule that leaves only families is_closed before it.
+-- Families are closed one after another, each by a rule that leaves only families closed before it.
 pub record IsClosings (program : SmallProgram) (closings : List (Option Closing)) (order : List ℕ) : Type 0 where
   pub size : length closings ≡ program.families
   pub count : count_by is_some closings ≡ length order
-  pub is_closed : (family : ℕ) (closing : Closing) → closing_of closings family ≡ Some closing → IsClosing program closings family closing
+  pub closed : (family : ℕ) (closing : Closing) → closing_of closings family ≡ Some closing → IsClosing program closings family closing
   pub ordered : (rank : ℕ) → rank < length order → IsClosedAt closings rank (slice_index order rank)
   pub within : (family : ℕ) (closing : Closing) → closing_of closings family ≡ Some closing → closing.rank < length order
   pub ranked : (family : ℕ) (closing : Closing) → closing_of closings family ≡ Some closing → slice_index order closing.rank ≡ family
@@ -48,7 +48,7 @@ pub record IsTable (program : SmallProgram) (table : Closings) : Type 0 where
   pub derived : (family : ℕ) (closing : Closing) → closing_of table.by_family family ≡ Some closing → HasDerivation program (family ∷ [])
   pub stays_open : (family : ℕ) → closing_of table.by_family family ≡ None → HasNoDerivation program family
 
--- The family is is_closed by a rule for the constant of this number, after each family of its binders.
+-- The family is closed by a rule for the constant of this number, after each family of its binders.
 pub record IsClosedBy (program : SmallProgram) (closings : List (Option Closing)) (family number : ℕ) : Type 0 where
   pub closing : Closing
   pub closes : closing_of closings family ≡ Some closing

@@ -111,13 +111,13 @@ pub read_application-returns-in_default-clause-refused : goal.read_application-r
 read_application-returns-in_default-clause-refused t c =
     let a = c.args in
     refuses_name a.names.now (typing_of a.sig.now a.scope.now) (tree_of a.tree.now) a.span (arguments_of (tree_of a.tree.now) []) (type_of a.wanted.now) (c.requires.base, refl)
-    (ap (names.head_of a.sig.now a.names.now) (sym c.text.ensures) ∙ sym c.head_named.ensures ∙ ap (option_map head_of) c.in_default.is)
+    (ap (names.named_head a.sig.now a.names.now) (sym c.text.ensures) ∙ sym c.head_named.ensures ∙ ap (option_map head_of) c.in_default.is)
 
 pub read_application-unreachable-requires : goal.read_application-unreachable-requires
 read_application-unreachable-requires t c =
     let a = c.args in
     let h = head_of c.in-Some.head in
-    let resolved = ap (names.head_of a.sig.now a.names.now) (sym c.text.ensures) ∙ sym c.head_named.ensures ∙ ap (option_map head_of) c.in-Some.is in
+    let resolved = ap (names.named_head a.sig.now a.names.now) (sym c.text.ensures) ∙ sym c.head_named.ensures ∙ ap (option_map head_of) c.in-Some.is in
     let none = subst₂ (λ o ms. seen_type o ≡ typing_at a.sig.now ms a.scope.now h) c.in_default-2.is c.requires.closed c.in_ok-found.ensures in
     head_is (typing_of a.sig.now a.scope.now) h (head_typed a.sig.now a.scope.now a.names.now _ h c.requires.known resolved) none
 
@@ -130,7 +130,7 @@ read_application-returns-in-Ok-clause-refused t c =
     let domains = rename_context (next_by found.raise) found.binders.now in
     let args = rename_spine (lifted_by (length found.binders.now) (next_by found.raise)) found.args.now in
     let arguments = arguments_of (tree_of a.tree.now) [] in
-    let resolved = ap (names.head_of a.sig.now a.names.now) (sym c.text.ensures) ∙ sym c.head_named.ensures ∙ ap (option_map head_of) c.in-Some.is in
+    let resolved = ap (names.named_head a.sig.now a.names.now) (sym c.text.ensures) ∙ sym c.head_named.ensures ∙ ap (option_map head_of) c.in-Some.is in
     let known = subst₂ (λ o ms. seen_type o ≡ typing_at a.sig.now ms a.scope.now h) c.in-Some-2.is c.requires.closed c.in_ok-found.ensures in
     let place : c.len.result ≡ length domains = c.len.ensures ∙ sym (length-rename_context (next_by found.raise) found.binders.now) in
     subst (λ n. RefusesTerm (text_in a.source.now) a.sig.now a.names.now Γ (tree_of a.tree.now) (type_of a.wanted.now) (IllTyped n)) (sym c.place.ensures)
@@ -177,7 +177,7 @@ read_application-returns-in-Err-clause-refused t c =
     let args = rename_spine (lifted_by (length found.binders.now) (next_by found.raise)) found.args.now in
     let tree = tree_of a.tree.now in
     let arguments = arguments_of tree [] in
-    let resolved = ap (names.head_of a.sig.now a.names.now) (sym c.text.ensures) ∙ sym c.head_named.ensures ∙ ap (option_map head_of) c.in-Some.is in
+    let resolved = ap (names.named_head a.sig.now a.names.now) (sym c.text.ensures) ∙ sym c.head_named.ensures ∙ ap (option_map head_of) c.in-Some.is in
     let known = subst₂ (λ o ms. seen_type o ≡ typing_at a.sig.now ms a.scope.now h) c.in-Some-2.is c.requires.closed c.in_ok-found.ensures in
     let few : length arguments ≤ length domains = omega (arith, c.in_default-argument.ensures, c.len.ensures, length-rename_context (next_by found.raise) found.binders.now) in
     IsRefusal-map (RefusesArguments text a.sig.now a.names.now Γ stays arguments domains) (RefusesTerm text a.sig.now a.names.now Γ tree (type_of a.wanted.now))
@@ -227,7 +227,7 @@ read_application-returns-then-not-same_ty-clause-refused t c =
     let arguments = arguments_of (tree_of a.tree.now) [] in
     let terms = c.in-Ok-read_arguments.terms in
     let made = type_of c.in_ok-made-in-Ok-read_arguments.made in
-    let resolved = ap (names.head_of a.sig.now a.names.now) (sym c.text.ensures) ∙ sym c.head_named.ensures ∙ ap (option_map head_of) c.in-Some.is in
+    let resolved = ap (names.named_head a.sig.now a.names.now) (sym c.text.ensures) ∙ sym c.head_named.ensures ∙ ap (option_map head_of) c.in-Some.is in
     let known = subst₂ (λ o ms. seen_type o ≡ typing_at a.sig.now ms a.scope.now h) c.in-Some-2.is c.requires.closed c.in_ok-found.ensures in
     let count = c.in-Ok-read_arguments.ensures.count in
     let result = subst (λ n. SubstitutedType (putting (spine_of terms.items) found.raise 0) (left_of found n) made) count
@@ -268,7 +268,7 @@ read_application-returns-clause-read t c =
     let arguments = arguments_of (tree_of a.tree.now) [] in
     let terms = c.in-Ok-read_arguments.terms in
     let made = type_of c.in_ok-made-in-Ok-read_arguments.made in
-    let resolved = ap (names.head_of a.sig.now a.names.now) (sym c.text.ensures) ∙ sym c.head_named.ensures ∙ ap (option_map head_of) c.in-Some.is in
+    let resolved = ap (names.named_head a.sig.now a.names.now) (sym c.text.ensures) ∙ sym c.head_named.ensures ∙ ap (option_map head_of) c.in-Some.is in
     let known = subst₂ (λ o ms. seen_type o ≡ typing_at a.sig.now ms a.scope.now h) c.in-Some-2.is c.requires.closed c.in_ok-found.ensures in
     let count = c.in-Ok-read_arguments.ensures.count in
     let result = subst (λ n. SubstitutedType (putting (spine_of terms.items) found.raise 0) (left_of found n) made) count
