@@ -5,9 +5,9 @@ ghost use Rattle.run_io.specs.Causes.{Rose};
 ghost use Rattle.small_programs.specs.SmallPrograms.{IsNumbered};
 ghost use Rattle.aesop_session.specs.Inputs.{TakesSmall, IsNoProgram};
 
-use basics::limits::MOST_INPUT;
 use crate::accepting::{Unserved, small_of};
 use crate::refusal::Refusal;
+use basics::limits::MOST_INPUT;
 use run_io::{ReadEnd, Source, read_all};
 use small_programs::SmallProgram;
 use std::alloc::Global;

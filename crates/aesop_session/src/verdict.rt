@@ -6,9 +6,9 @@ ghost use Rattle.small_search.specs.Closings.{IsClosedAt};
 ghost use Rattle.small_answers.specs.Lengths.{IsProofs};
 ghost use Rattle.aesop_session.specs.Verdicts.{IsVerdict, IsVerdictOf};
 
-use lf_terms::term::copy;
 use basics::{Ids, NoMemory};
 use lf_terms::Term;
+use lf_terms::term::copy;
 use small_answers::{Proofs, append_numbers, terms_of};
 use small_programs::SmallProgram;
 use std::alloc::Global;

@@ -11,9 +11,9 @@ ghost use Rattle.elab_terms.specs.Types.{ReadsType, RefusesType, ReadsKind, Refu
 
 use crate::bound_names::BoundNames;
 use crate::elab_fault::ElabFault;
+use crate::file_text::FileText;
 use crate::read_kind::read_kind;
 use crate::read_type::read_type;
-use crate::file_text::FileText;
 use file_trees::TypeTree;
 use lf_kernel::local_context::LocalContext;
 use lf_terms::{GoalList, Kind, Signature, Ty};
@@ -34,7 +34,15 @@ pub fn closed_type(
     sig.is_formed();
     let metas = GoalList::new(alloc);
     let mut names = BoundNames::new(alloc);
-    match read_type(alloc, source, sig, &metas, &mut names, &LocalContext::Closed, tree) {
+    match read_type(
+        alloc,
+        source,
+        sig,
+        &metas,
+        &mut names,
+        &LocalContext::Closed,
+        tree,
+    ) {
         Err(fault) => Err(fault),
         Ok(ty) => Ok(ty),
     }
@@ -55,7 +63,15 @@ pub fn closed_kind(
     sig.is_formed();
     let metas = GoalList::new(alloc);
     let mut names = BoundNames::new(alloc);
-    match read_kind(alloc, source, sig, &metas, &mut names, &LocalContext::Closed, tree) {
+    match read_kind(
+        alloc,
+        source,
+        sig,
+        &metas,
+        &mut names,
+        &LocalContext::Closed,
+        tree,
+    ) {
         Err(fault) => Err(fault),
         Ok(kind) => Ok(kind),
     }

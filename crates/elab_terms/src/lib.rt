@@ -6,17 +6,17 @@
 #![tactic(auto)]
 
 mod applied;
-mod bound_names;
 mod binding;
+mod bound_names;
 pub mod closed;
 pub mod elab_fault;
+pub mod file_text;
 mod head;
 pub mod laws;
 pub mod names;
 mod read_kind;
 mod read_type;
 mod results;
-pub mod file_text;
 mod terms;
 mod types;
 

@@ -11,11 +11,11 @@ ghost use Rattle.elab_terms.specs.KnownTypes.{KnownAt, IsRefusal, typing_of};
 ghost use Rattle.elab_terms.specs.FileTexts.{text_in};
 ghost use Rattle.elab_terms.specs.Types.{ReadsKind, RefusesKind};
 
-use crate::bound_names::BoundNames;
 use crate::binding::{bound_name, domain};
+use crate::bound_names::BoundNames;
 use crate::elab_fault::ElabFault;
-use crate::read_type::read_type;
 use crate::file_text::FileText;
+use crate::read_type::read_type;
 use file_trees::{Binder, Last, TypeTree};
 use lf_kernel::local_context::LocalContext;
 use lf_terms::{GoalList, Kind, Signature, Ty, Tys};

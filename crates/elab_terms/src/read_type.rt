@@ -11,12 +11,12 @@ ghost use Rattle.elab_terms.specs.KnownTypes.{KnownAt, IsRefusal, typing_of};
 ghost use Rattle.elab_terms.specs.FileTexts.{text_in};
 ghost use Rattle.elab_terms.specs.Types.{ReadsType, RefusesType};
 
-use basics::limits::MOST_BINDERS;
-use crate::bound_names::BoundNames;
 use crate::binding::{binding_place, bound_name, domain};
+use crate::bound_names::BoundNames;
 use crate::elab_fault::ElabFault;
 use crate::file_text::FileText;
 use crate::types::read_family;
+use basics::limits::MOST_BINDERS;
 use file_trees::{Binder, Last, Span, TermTrees, TypeTree};
 use lf_kernel::local_context::LocalContext;
 use lf_terms::{GoalList, Signature, Ty, Tys};

@@ -12,12 +12,12 @@ ghost use Rattle.lf_terms.specs.Types.{type_of, types_of};
 ghost use Rattle.elab_terms.specs.Terms.{expanded};
 ghost use Rattle.elab_terms.specs.Domains.{left_of};
 
+use basics::NoMemory;
 use lf_kernel::head_type::HeadType;
 use lf_terms::eta::{abstracted, own_variables, raised};
 use lf_terms::shape_of::shapes_of;
 use lf_terms::subst::{put_all, put_type};
 use lf_terms::term::copy;
-use basics::NoMemory;
 use lf_terms::{Head, Shape, Term, Terms, Ty, Tys};
 use std::alloc::Global;
 

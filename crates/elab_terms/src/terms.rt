@@ -18,9 +18,9 @@ ghost use Rattle.elab_terms.specs.Terms.{ReadsTerm, RefusesTerm, ReadsArguments,
 use crate::applied::{argument, base};
 use crate::bound_names::BoundNames;
 use crate::elab_fault::ElabFault;
+use crate::file_text::{FileText, binder, text};
 use crate::head::head_named;
 use crate::results::{expand, left_type, type_after};
-use crate::file_text::{FileText, binder, text};
 use file_trees::{Span, TermTree, place};
 use lf_kernel::head_type::type_of_head;
 use lf_kernel::local_context::LocalContext;

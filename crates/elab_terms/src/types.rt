@@ -16,8 +16,8 @@ ghost use Rattle.elab_terms.specs.Types.{ReadsType, RefusesType};
 
 use crate::bound_names::BoundNames;
 use crate::elab_fault::ElabFault;
-use crate::head::family_at;
 use crate::file_text::{FileText, text};
+use crate::head::family_at;
 use crate::terms::read_term;
 use file_trees::{Span, TermTree, TermTrees, place};
 use lf_kernel::local_context::LocalContext;

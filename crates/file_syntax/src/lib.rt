@@ -7,10 +7,10 @@ mod nesting;
 pub mod parse_fault;
 pub mod parsing;
 mod rule_steps;
-pub mod terminal;
 mod state;
 mod steps;
 mod term_steps;
+pub mod terminal;
 mod type_steps;
 
 pub use parse_fault::ParseFault;

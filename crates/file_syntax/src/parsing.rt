@@ -6,12 +6,12 @@ ghost use Rattle.file_syntax.specs.Files.{IsParsed, IsFaultOf, IsOneFile};
 ghost use Rattle.file_syntax.specs.Reading.{start};
 ghost use Rattle.lex_text.specs.declared.token.Token.{Token};
 
-use basics::limits::DEEPEST_NESTING;
 use crate::nesting::Nesting;
 use crate::parse_fault::ParseFault;
-use crate::terminal::terminal_at;
 use crate::state::{Frames, State, StepFault, Top};
 use crate::steps::step;
+use crate::terminal::terminal_at;
+use basics::limits::DEEPEST_NESTING;
 use file_trees::{DeclTrees, FileTree};
 use lex_text::{Token, Tokens};
 use std::alloc::Global;

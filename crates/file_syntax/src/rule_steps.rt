@@ -3,8 +3,8 @@
 ghost use Rattle.std.specs.Prelude.{◌≡◌, ◌++◌, ◌∷◌, [], IfOk, IsErrOf, None, Some};
 ghost use Rattle.file_syntax.specs.Reading.{phase_of, builder_word, next_part, next_word, next_number, next_colon, past_subject, past_major, rule_from, ended_rule, in_rule, ended};
 
-use crate::terminal::{Keyword, Terminal};
 use crate::state::{RuleHead, RulePart, State, StepFault, Top};
+use crate::terminal::{Keyword, Terminal};
 use file_trees::{BuildWord, DeclTree, PhaseWord, Span};
 
 fn phase_of(word: Keyword) -> Option<PhaseWord>
@@ -156,7 +156,11 @@ pub(crate) fn ended(state: &mut State, declaration: Option<DeclTree>) -> Result<
     Ok(())
 }
 
-pub(crate) fn in_rule(state: &mut State, part: RulePart, terminal: Terminal) -> Result<(), StepFault>
+pub(crate) fn in_rule(
+    state: &mut State,
+    part: RulePart,
+    terminal: Terminal,
+) -> Result<(), StepFault>
     ensures ok { IfOk result (λ _. in_rule state.old.decls state.old.frames part terminal ≡ Some state.new) }
     ensures refused { IsErrOf result StepFault.Refused → in_rule state.old.decls state.old.frames part terminal ≡ None }
 {

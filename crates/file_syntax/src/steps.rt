@@ -4,9 +4,9 @@ ghost use Rattle.std.specs.Prelude.{◌≡◌, ◌++◌, ◌∷◌, [], IfOk, Is
 ghost use Rattle.file_syntax.specs.Reading.{begun, between, goal_name, goal_colon, data_name, data_equals, data_names, step};
 
 use crate::rule_steps::in_rule;
-use crate::terminal::{Keyword, Terminal};
 use crate::state::{Frame, Purpose, RulePart, State, StepFault, Top};
 use crate::term_steps::{abs_close, abs_name, among_arguments};
+use crate::terminal::{Keyword, Terminal};
 use crate::type_steps::{group_end, pi_colon, pi_name, star_end, type_start};
 use file_trees::{Binders, DeclTree, Span, Spans};
 use std::alloc::Global;
@@ -88,7 +88,12 @@ fn data_name(state: &mut State, terminal: Terminal) -> Result<(), StepFault>
     }
 }
 
-fn data_equals(alloc: Global, state: &mut State, name: Span, terminal: Terminal) -> Result<(), StepFault>
+fn data_equals(
+    alloc: Global,
+    state: &mut State,
+    name: Span,
+    terminal: Terminal,
+) -> Result<(), StepFault>
     ensures ok { IfOk result (λ _. data_equals state.old.decls state.old.frames name terminal ≡ Some state.new) }
     ensures refused { IsErrOf result StepFault.Refused → data_equals state.old.decls state.old.frames name terminal ≡ None }
 {
@@ -101,7 +106,12 @@ fn data_equals(alloc: Global, state: &mut State, name: Span, terminal: Terminal)
     }
 }
 
-fn data_names(state: &mut State, name: Span, mut names: Spans, terminal: Terminal) -> Result<(), StepFault>
+fn data_names(
+    state: &mut State,
+    name: Span,
+    mut names: Spans,
+    terminal: Terminal,
+) -> Result<(), StepFault>
     ensures ok { IfOk result (λ _. data_names state.old.decls state.old.frames name names terminal ≡ Some state.new) }
     ensures refused { IsErrOf result StepFault.Refused → data_names state.old.decls state.old.frames name names terminal ≡ None }
 {

@@ -5,8 +5,8 @@ ghost use Rattle.file_syntax.specs.Reading.{more_arguments, abstracted, close_te
 ghost use Rattle.file_trees.specs.Trees.{applied};
 ghost use Rattle.file_trees.specs.TermViews.{tree_of};
 
-use crate::terminal::Terminal;
 use crate::state::{Frame, Owner, State, StepFault, Top};
+use crate::terminal::Terminal;
 use crate::type_steps::{close_type, past_arrow};
 use file_trees::{Binders, Part, Span, Spans, TermTree, TermTrees, TypeTree};
 use std::alloc::{AllocError, Global};

@@ -5,8 +5,8 @@ ghost use Rattle.file_syntax.specs.Reading.{type_start, pi_name, pi_colon, typed
 ghost use Rattle.file_trees.specs.Trees.{bind, star};
 
 use crate::rule_steps::ended;
+use crate::state::{Frame, Owner, Purpose, State, StepFault, Top};
 use crate::terminal::Terminal;
-use crate::state::{Frame, Purpose, Owner, State, StepFault, Top};
 use file_trees::{Binder, Binders, DeclTree, Span, TermTrees, TypeTree};
 use std::alloc::Global;
 
@@ -110,7 +110,11 @@ fn close_brace(
 }
 
 /// A type ends at the terminal.
-pub(crate) fn close_type(state: &mut State, tree: TypeTree, terminal: Terminal) -> Result<(), StepFault>
+pub(crate) fn close_type(
+    state: &mut State,
+    tree: TypeTree,
+    terminal: Terminal,
+) -> Result<(), StepFault>
     ensures ok { IfOk result (λ _. close_type state.old.decls state.old.frames tree terminal ≡ Some state.new) }
     ensures refused { IsErrOf result StepFault.Refused → close_type state.old.decls state.old.frames tree terminal ≡ None }
 {

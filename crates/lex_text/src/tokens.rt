@@ -6,7 +6,6 @@ ghost use Rattle.lex_text.specs.Characters.{NotUtf8At, IsSeparator};
 ghost use Rattle.lex_text.specs.Tokens.{TokensOf, WrongText, Cut, bad_character, long_name, IsWithin};
 ghost use Rattle.lex_text.specs.Reading.{IsPlace, IsNext, IsFaultAt, IsShortSize};
 
-use basics::limits::LONGEST_NAME;
 use crate::lex_fault::LexFault;
 use crate::lexeme::lexeme_at;
 use crate::mark::Mark;
@@ -14,6 +13,7 @@ use crate::reading::end_of_run;
 use crate::run::Run;
 use crate::token::Token;
 use crate::token_list::{TokenList, Tokens};
+use basics::limits::LONGEST_NAME;
 use std::alloc::Global;
 use std::str;
 

@@ -6,10 +6,10 @@ ghost use Rattle.lf_kernel.specs.Adding.{AddsEntry, HasRoomOr};
 ghost use Rattle.lf_kernel.specs.Checks.{ChecksType};
 ghost use Rattle.lf_terms.specs.Types.{type_of};
 
-use basics::limits::MOST_SYMBOLS;
 use crate::answer::Check;
 use crate::sig_fault::SigFault;
 use crate::typing::{check_kind, check_type};
+use basics::limits::MOST_SYMBOLS;
 use basics::{Name, NoMemory};
 use lf_terms::{GoalList, Kind, Signature, Ty, Tys};
 use std::alloc::Global;

@@ -4,8 +4,7 @@ ghost use Rattle.std.specs.Prelude.{◌≡◌};
 ghost use Rattle.lf_kernel.specs.Checks.{answer};
 
 use crate::path::turned;
-use basics::Ids;
-use basics::Path;
+use basics::{Ids, Path};
 
 /// Whether a term has a type, or a type is well formed, or else the path to the part at which it first
 /// fails.

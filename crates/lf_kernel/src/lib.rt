@@ -7,8 +7,8 @@
 pub mod adding;
 mod answer;
 pub mod head_type;
-mod path;
 pub mod local_context;
+mod path;
 mod sig_fault;
 mod stripping;
 pub mod typing;

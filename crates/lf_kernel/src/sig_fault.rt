@@ -1,7 +1,6 @@
 //! Why a signature takes no further entry.
 
-use basics::Name;
-use basics::Path;
+use basics::{Name, Path};
 
 /// Why a family or a constant isn't added. The signature is then as it was.
 #[derive(Drop)]

@@ -34,7 +34,14 @@ pub fn check(
     sig.is_formed();
     let closed = LocalContext::Closed;
     let types = ctx.as_slice();
-    let found = walk_term(alloc, sig, metas, &LocalContext::Under(types, &closed), term, ty)?;
+    let found = walk_term(
+        alloc,
+        sig,
+        metas,
+        &LocalContext::Under(types, &closed),
+        term,
+        ty,
+    )?;
     Ok(answer_of(found))
 }
 

@@ -15,13 +15,13 @@ ghost use Rattle.lf_terms.specs.Terms.{head_of, term_of};
 ghost use Rattle.lf_terms.specs.Types.{type_of};
 
 use crate::head_type::{HeadType, type_of_head};
-use crate::path::{step, under};
 use crate::local_context::LocalContext;
+use crate::path::{step, under};
 use crate::stripping::body_under;
+use basics::{Ids, NoMemory};
 use lf_terms::same::same_terms;
 use lf_terms::shape_of::shapes_of;
 use lf_terms::subst::{put_all, put_type};
-use basics::{Ids, NoMemory};
 use lf_terms::{GoalList, Head, Shapes, Signature, Term, Terms, Ty, Tys};
 use std::alloc::Global;
 
@@ -47,7 +47,14 @@ pub fn walk_term<'a>(
     match body_under(term, count) {
         Err(depth) => Ok(Some(under(Ids::new(alloc), depth)?)),
         Ok(body) => {
-            match walk_body(alloc, sig, metas, &LocalContext::Under(binders, scope), body, ty)? {
+            match walk_body(
+                alloc,
+                sig,
+                metas,
+                &LocalContext::Under(binders, scope),
+                body,
+                ty,
+            )? {
                 None => Ok(None),
                 Some(path) => Ok(Some(under(path, count)?)),
             }

@@ -10,11 +10,11 @@ ghost use Rattle.lf_kernel.specs.Heads.{typing_at};
 ghost use Rattle.lf_kernel.specs.ShapedPlaces.{ShapedAt};
 ghost use Rattle.lf_terms.specs.Types.{type_of, types_of};
 
-use crate::path::step;
 use crate::local_context::LocalContext;
+use crate::path::step;
 use crate::walk::walk_args;
-use lf_terms::shape_of::shapes_of;
 use basics::{Ids, NoMemory};
+use lf_terms::shape_of::shapes_of;
 use lf_terms::{GoalList, Signature, Terms, Ty};
 use std::alloc::Global;
 

@@ -5,8 +5,8 @@ ghost use Rattle.small_search.specs.Closings.{IsTable, IsClosedAt};
 ghost use Rattle.small_answers.specs.Copies.{AreTerms, IsGiven};
 
 use crate::choices::choice_of;
-use lf_terms::term::copy;
 use basics::NoMemory;
+use lf_terms::term::copy;
 use lf_terms::{Head, Term, Terms};
 use small_programs::SmallProgram;
 use small_search::Table;

@@ -9,8 +9,8 @@ ghost use Rattle.small_programs.specs.SmallPrograms.{IsNumbered};
 ghost use Rattle.small_forms.specs.Smallness.{IsSmallForm, binder_families, percent_of, small_constant, small_constants, small_rule, small_theorem};
 
 use crate::restrictions::is_small;
-use file_elab::{Program, TheoremList};
 use basics::{Ids, Name, NoMemory};
+use file_elab::{Program, TheoremList};
 use lf_terms::{Signature, Ty};
 use rule_sets::{Phase, Rule, RuleBook};
 use small_programs::{
