@@ -1,0 +1,4 @@
+pub mod Heads
+pub mod Occurrence
+pub mod Replacing
+pub mod OccurrenceLaws
