@@ -1,4 +1,9 @@
 pub mod Heads
 pub mod Occurrence
 pub mod Replacing
+pub mod Results
+pub mod Known
+pub mod Assignments
 pub mod OccurrenceLaws
+pub mod ReplacementLaws
+pub mod AssignmentLaws

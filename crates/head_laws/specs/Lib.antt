@@ -1,2 +1,4 @@
 pub mod Mentions
 pub mod OccurrenceLaws
+pub mod ReplacementLaws
+pub mod AssignmentLaws

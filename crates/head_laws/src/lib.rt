@@ -4,6 +4,8 @@
 #![tactic(auto)]
 
 ghost use Rattle.head_laws.specs.OccurrenceLaws.{OccurrenceIsDecided, RenamingsAgree, OccurrencesAreRenamed, ReplacementsAgree, UnreplacedTermsStay, ResultsMention};
+ghost use Rattle.head_laws.specs.ReplacementLaws.{TypesAndContextsHaveOneResult, ReplacementsCompose};
+ghost use Rattle.head_laws.specs.AssignmentLaws.{AssignmentsCompose, AssignmentsHaveAComposite, InstantiationGoesAlongWithSubstitution};
 
 /// Whether a head occurs in a term, a spine, a type or a context is decided by truth values, and so is whether it does rigidly.
 pub fn occurrence_is_decided()
@@ -33,4 +35,29 @@ pub fn unreplaced_terms_stay()
 /// What occurs in a result comes from the image of a head that occurs in what was replaced in.
 pub fn results_mention()
     ensures { ResultsMention }
+{}
+
+/// In shaped types, contexts and goals there is exactly one result, and it is shaped.
+pub fn types_and_contexts_have_one_result()
+    ensures { TypesAndContextsHaveOneResult }
+{}
+
+/// One replacement after another is one that does to each head what they do.
+pub fn replacements_compose()
+    ensures { ReplacementsCompose }
+{}
+
+/// One assignment after another is one that does to each metavariable that is known what they do.
+pub fn assignments_compose()
+    ensures { AssignmentsCompose }
+{}
+
+/// There is such an assignment.
+pub fn assignments_have_a_composite()
+    ensures { AssignmentsHaveAComposite }
+{}
+
+/// Closed terms may be put for metavariables before a list is substituted, or afterwards.
+pub fn instantiation_goes_along_with_substitution()
+    ensures { InstantiationGoesAlongWithSubstitution }
 {}
