@@ -1,9 +1,9 @@
 -- The laws of assignments, as they are stated.
-use Rattle.std.proofs.Common.{ℕ, ◌+◌, ◌↔◌, List, length}
+use Rattle.std.proofs.Common.{◌+◌, ◌↔◌, length}
 use Rattle.lf_definitions.specs.Instantiation.{instantiating}
 use Rattle.lf_definitions.specs.Shaping.{under_all}
 use Rattle.lf_definitions.specs.Laws.{image}
-use Rattle.head_laws.specs.AssignmentLaws.{IsAfter, AssignmentsCompose, AssignmentsHaveAComposite, InstantiationGoesAlongWithSubstitution}
+use Rattle.head_laws.specs.AssignmentLaws.{AssignmentsCompose, AssignmentsHaveAComposite, InstantiationGoesAlongWithSubstitution}
 use Rattle.head_laws.proofs.Results.{compose_term, compose_spine, compose_type, compose_context}
 use Rattle.head_laws.proofs.Known.{Goes-then, compose_known_term, compose_known_spine, compose_known_type, compose_known_context}
 use Rattle.head_laws.proofs.Assignments.{IsThenOn-after, after_exists, substituting, size_of_inner, goes_list, goes_after, goes_before, goes_later, goes_together, list_then, then_list}

@@ -1,18 +1,18 @@
 -- One assignment after another, and closed terms that are assigned before or after a substitution.
-use Rattle.std.proofs.Common.{◌≡◌, ℕ, zero, suc, ◌+◌, ◌≤◌, ◌↔◌, Option, Some, None, List, length, refl, sym, ap, ◌∙◌, subst, subst₂, arith}
+use Rattle.std.proofs.Common.{◌≡◌, ℕ, zero, suc, ◌+◌, Option, Some, None, List, length, refl, ap, ◌∙◌, subst, arith}
 use mathlib.Core.Path.{fun_ext}
-use Rattle.lf_definitions.specs.Syntax.{LfHead, bound, constant, metavariable, LfTerm, Spine, LfType, SimpleType, base, arrows, args_count, shape_size}
-use Rattle.lf_definitions.specs.Renaming.{next, raise, rename}
+use Rattle.lf_definitions.specs.Syntax.{LfHead, bound, constant, metavariable, LfTerm, Spine, SimpleType, base, arrows, args_count, shape_size}
+use Rattle.lf_definitions.specs.Renaming.{next, raise}
 use Rattle.lf_definitions.specs.Shaping.{Scope, under_all, ShapedList}
 use Rattle.lf_definitions.specs.Occurrence.{OccursIn}
-use Rattle.lf_definitions.specs.Substitution.{Image, stays, becomes, rename_image, Replacement, up, up_by, push_all, Substituted}
-use Rattle.lf_definitions.specs.Replacements.{Fits, fits_stays, fits_becomes, Goes, Then, then_stays, then_becomes, IsThen}
+use Rattle.lf_definitions.specs.Substitution.{stays, becomes, rename_image, Replacement, up, up_by, push_all}
+use Rattle.lf_definitions.specs.Replacements.{Fits, fits_becomes, Goes, Then, then_stays, then_becomes, IsThen}
 use Rattle.lf_definitions.specs.Instantiation.{Assignment, assigned, instantiating, InstantiatedSpine}
 use Rattle.lf_definitions.specs.Laws.{image}
 use Rattle.lf_definitions.proofs.Renaming.{same_head, rename-same_head}
 use Rattle.lf_definitions.proofs.Totality.{total, Goes-more, ShapedSpine-SubstitutedSpine}
 use Rattle.lf_definitions.proofs.Composition.{IsThen-before, IsThen-after}
-use Rattle.lf_definitions.proofs.Telescopes.{args_count-length, Goes-push_all, Goes-up_by, IsThen-up_by, IsThen-push_all_before, IsThen-push_all_after}
+use Rattle.lf_definitions.proofs.Telescopes.{Goes-push_all, Goes-up_by, IsThen-up_by, IsThen-push_all_before, IsThen-push_all_after}
 use Rattle.lf_definitions.proofs.Laws.{Goes-image}
 use Rattle.head_laws.specs.AssignmentLaws.{IsAfter, AssignsClosedTerms}
 use Rattle.head_laws.proofs.Occurrence.{rename-agree}

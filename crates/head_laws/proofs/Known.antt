@@ -1,6 +1,6 @@
 -- Each head that occurs in what is shaped is known in its scope. So replacements compose where they do on the heads that are known.
-use Rattle.std.proofs.Common.{◌≡◌, ℕ, zero, suc, ◌+◌, ◌<◌, ◌≤◌, ◌↔◌, Option, Some, None, List, [], ◌∷◌, refl, sym, ap, ◌∙◌, subst, subst₂, arith}
-use Rattle.lf_definitions.specs.Syntax.{LfHead, bound, LfTerm, Spine, LfType, Context, SimpleType, shape_of, shape_size}
+use Rattle.std.proofs.Common.{◌≡◌, ℕ, ◌+◌, ◌↔◌, Option, Some, None, refl, sym, ap, ◌∙◌, subst, arith}
+use Rattle.lf_definitions.specs.Syntax.{LfHead, LfTerm, Spine, LfType, Context, SimpleType, shape_of}
 use Rattle.lf_definitions.specs.Renaming.{next}
 use Rattle.lf_definitions.specs.Shaping.{Scope, under, Shaped, shaped_lam, shaped_at, ShapedSpine, shaped_none, shaped_arg, ShapedType, shaped_pi, shaped_family}
 use Rattle.lf_definitions.specs.ShapedGoals.{ShapedContext, shaped_empty, shaped_entry}
@@ -8,8 +8,7 @@ use Rattle.lf_definitions.specs.Occurrence.{OccursIn, occurs_head, occurs_args, 
 use Rattle.lf_definitions.specs.Substitution.{Image, stays, becomes, Replacement, Substituted, SubstitutedSpine, SubstitutedType, SubstitutedContext}
 use Rattle.lf_definitions.specs.Replacements.{Fits, fits_stays, fits_becomes, Goes, Then, then_stays, then_becomes, IsThen}
 use Rattle.lf_definitions.proofs.Renaming.{extended-next}
-use Rattle.lf_definitions.proofs.Totality.{Fits-more, Goes-more, Shaped-Substituted}
-use Rattle.lf_definitions.proofs.Options.{None-Some}
+use Rattle.lf_definitions.proofs.Totality.{Fits-more, Shaped-Substituted}
 use Rattle.head_laws.proofs.Replacing.{Substituted-agree, SubstitutedSpine-agree, SubstitutedType-agree, SubstitutedContext-agree}
 use Rattle.head_laws.proofs.Results.{compose_term, compose_spine, compose_type, compose_context}
 

@@ -4,6 +4,11 @@ pub mod Replacing
 pub mod Results
 pub mod Known
 pub mod Assignments
+pub mod Unrenamed
+pub mod Metavariables
+pub mod MetavariableTyping
+pub mod MetavariableFailures
+pub mod MetavariableLaws
 pub mod OccurrenceLaws
 pub mod ReplacementLaws
 pub mod AssignmentLaws

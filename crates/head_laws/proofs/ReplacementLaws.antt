@@ -1,5 +1,4 @@
 -- The laws of replacements, as they are stated.
-use Rattle.lf_definitions.specs.Instantiation.{instantiating}
 use Rattle.lf_definitions.proofs.Uniqueness.{unique_type}
 use Rattle.lf_definitions.proofs.Types.{total_type}
 use Rattle.head_laws.specs.ReplacementLaws.{TypesAndContextsHaveOneResult, ReplacementsCompose}

@@ -1,6 +1,6 @@
 -- Results of replacements in contexts and goals, and one replacement after another.
-use Rattle.std.proofs.Common.{◌≡◌, ℕ, suc, ◌↔◌, Option, List, [], ◌∷◌, length, refl, sym, ap, ap₂, ◌∙◌, subst}
-use Rattle.lf_definitions.specs.Syntax.{LfHead, LfTerm, Spine, LfType, family, Context, SimpleType, LfAtom, atomic, conclusion_atom, shape_of, shapes_of_types}
+use Rattle.std.proofs.Common.{◌≡◌, ℕ, suc, ◌↔◌, Option, [], ◌∷◌, length, refl, sym, ap, ap₂, ◌∙◌, subst}
+use Rattle.lf_definitions.specs.Syntax.{LfTerm, Spine, LfType, Context, SimpleType, LfAtom, atomic, conclusion_atom, shape_of, shapes_of_types}
 use Rattle.lf_definitions.specs.Shaping.{Scope, under, under_all, Shaped, ShapedSpine, ShapedType, shaped_family}
 use Rattle.lf_definitions.specs.ShapedGoals.{ShapedContext, shaped_empty, shaped_entry}
 use Rattle.lf_definitions.specs.Substitution.{Replacement, up, up_by, Substituted, SubstitutedSpine, SubstitutedType, substituted_family, SubstitutedContext, substituted_empty, substituted_entry}
@@ -10,7 +10,7 @@ use Rattle.lf_definitions.specs.Instantiation.{Assignment, instantiating, Instan
 use Rattle.lf_definitions.proofs.Uniqueness.{unique, unique_spine, unique_type}
 use Rattle.lf_definitions.proofs.Totality.{Goes-up, total, total_spine}
 use Rattle.lf_definitions.proofs.Composition.{IsThen-up, composes, composes_spine}
-use Rattle.lf_definitions.proofs.Types.{shape_of-SubstitutedType, HasTypeResult, total_type, composes_type}
+use Rattle.lf_definitions.proofs.Types.{shape_of-SubstitutedType, total_type, composes_type}
 use Rattle.lf_definitions.proofs.Telescopes.{Goes-up_by}
 use Rattle.head_laws.specs.ReplacementLaws.{ShapedGoalOver}
 

@@ -6,6 +6,7 @@
 ghost use Rattle.head_laws.specs.OccurrenceLaws.{OccurrenceIsDecided, RenamingsAgree, OccurrencesAreRenamed, ReplacementsAgree, UnreplacedTermsStay, ResultsMention};
 ghost use Rattle.head_laws.specs.ReplacementLaws.{TypesAndContextsHaveOneResult, ReplacementsCompose};
 ghost use Rattle.head_laws.specs.AssignmentLaws.{AssignmentsCompose, AssignmentsHaveAComposite, InstantiationGoesAlongWithSubstitution};
+ghost use Rattle.head_laws.specs.MetavariableLaws.{ResultsOfRenamedTermsAreRenamed, InstantiationsAreRenamed, ResultsOfInstantiationAreRenamed, RenamedMetavariablesKeepShapes, TypingIsRenamed, FailuresAreRenamed, MetavariablesOccurRenamed, GoalTypesAreRenamed};
 
 /// Whether a head occurs in a term, a spine, a type or a context is decided by truth values, and so is whether it does rigidly.
 pub fn occurrence_is_decided()
@@ -60,4 +61,44 @@ pub fn assignments_have_a_composite()
 /// Closed terms may be put for metavariables before a list is substituted, or afterwards.
 pub fn instantiation_goes_along_with_substitution()
     ensures { InstantiationGoesAlongWithSubstitution }
+{}
+
+/// Each result of a renamed term is a renamed result.
+pub fn results_of_renamed_terms_are_renamed()
+    ensures { ResultsOfRenamedTermsAreRenamed }
+{}
+
+/// Instantiation goes along with a renaming of metavariables, both ways.
+pub fn instantiations_are_renamed()
+    ensures { InstantiationsAreRenamed }
+{}
+
+/// What a renamed assignment makes of something renamed is a renamed result.
+pub fn results_of_instantiation_are_renamed()
+    ensures { ResultsOfInstantiationAreRenamed }
+{}
+
+/// Shapes stay where metavariables are renamed.
+pub fn renamed_metavariables_keep_shapes()
+    ensures { RenamedMetavariablesKeepShapes }
+{}
+
+/// Typing goes along with a renaming of metavariables, both ways.
+pub fn typing_is_renamed()
+    ensures { TypingIsRenamed }
+{}
+
+/// The first failure is at the same path where metavariables are renamed.
+pub fn failures_are_renamed()
+    ensures { FailuresAreRenamed }
+{}
+
+/// A head occurs where its new one does afterwards.
+pub fn metavariables_occur_renamed()
+    ensures { MetavariablesOccurRenamed }
+{}
+
+/// The type of a renamed goal is the goal's, renamed.
+pub fn goal_types_are_renamed()
+    ensures { GoalTypesAreRenamed }
 {}
