@@ -8,7 +8,12 @@ pub mod Unrenamed
 pub mod Metavariables
 pub mod MetavariableTyping
 pub mod MetavariableFailures
-pub mod MetavariableLaws
+pub mod Lookups
+pub mod Numbers
+pub mod GoalNumbers
 pub mod OccurrenceLaws
 pub mod ReplacementLaws
 pub mod AssignmentLaws
+pub mod MetavariableLaws
+pub mod LookupLaws
+pub mod GoalListLaws

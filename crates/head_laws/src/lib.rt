@@ -7,6 +7,8 @@ ghost use Rattle.head_laws.specs.OccurrenceLaws.{OccurrenceIsDecided, RenamingsA
 ghost use Rattle.head_laws.specs.ReplacementLaws.{TypesAndContextsHaveOneResult, ReplacementsCompose};
 ghost use Rattle.head_laws.specs.AssignmentLaws.{AssignmentsCompose, AssignmentsHaveAComposite, InstantiationGoesAlongWithSubstitution};
 ghost use Rattle.head_laws.specs.MetavariableLaws.{ResultsOfRenamedTermsAreRenamed, InstantiationsAreRenamed, ResultsOfInstantiationAreRenamed, RenamedMetavariablesKeepShapes, TypingIsRenamed, FailuresAreRenamed, MetavariablesOccurRenamed, GoalTypesAreRenamed};
+ghost use Rattle.head_laws.specs.LookupLaws.{TypingLooksUpWhatOccurs, TypedHeadsAreKnown, GoalsMayChange};
+ghost use Rattle.head_laws.specs.GoalListLaws.{AboveIsGreater, FormedGoalsAreClosed, UpToIsByPlace, UpToIsInjective, CanonNumbersByPlace, CanonIsUndone, CanonForgetsNumbers, RenumberedGoalsStayClosed};
 
 /// Whether a head occurs in a term, a spine, a type or a context is decided by truth values, and so is whether it does rigidly.
 pub fn occurrence_is_decided()
@@ -101,4 +103,59 @@ pub fn metavariables_occur_renamed()
 /// The type of a renamed goal is the goal's, renamed.
 pub fn goal_types_are_renamed()
     ensures { GoalTypesAreRenamed }
+{}
+
+/// Typing, being well formed and failing depend on the types of the heads that occur alone.
+pub fn typing_looks_up_what_occurs()
+    ensures { TypingLooksUpWhatOccurs }
+{}
+
+/// Each head that occurs in what is typed or well formed has a type.
+pub fn typed_heads_are_known()
+    ensures { TypedHeadsAreKnown }
+{}
+
+/// Typing among goals depends on the goals that are mentioned alone.
+pub fn goals_may_change()
+    ensures { GoalsMayChange }
+{}
+
+/// `above` is greater than each number of the list.
+pub fn above_is_greater()
+    ensures { AboveIsGreater }
+{}
+
+/// Goals that are well formed mention no metavariable but these goals.
+pub fn formed_goals_are_closed()
+    ensures { FormedGoalsAreClosed }
+{}
+
+/// `up_to` gives the number at a place of a list, and further numbers past its end.
+pub fn up_to_is_by_place()
+    ensures { UpToIsByPlace }
+{}
+
+/// `up_to` is injective for numbers that differ, with further numbers above them.
+pub fn up_to_is_injective()
+    ensures { UpToIsInjective }
+{}
+
+/// The numbers of `canon` are the places.
+pub fn canon_numbers_by_place()
+    ensures { CanonNumbersByPlace }
+{}
+
+/// The old numbers, put for the places, give the goals back.
+pub fn canon_is_undone()
+    ensures { CanonIsUndone }
+{}
+
+/// Goals and the same with other numbers have one `canon`.
+pub fn canon_forgets_numbers()
+    ensures { CanonForgetsNumbers }
+{}
+
+/// Goals with other numbers are still closed, and their numbers still differ.
+pub fn renumbered_goals_stay_closed()
+    ensures { RenumberedGoalsStayClosed }
 {}
