@@ -51,7 +51,7 @@ rename_context-rename_context (a ∷ rest) ζ ξ =
     ap₂ (λ b more. b ∷ more) (rename_type-rename_type a ζ ξ)
     (rename_context-rename_context rest (lifted ζ) (lifted ξ) ∙ ap (λ θ. rename_context θ rest) (fun_ext (lifted-after ζ ξ)))
 
-rename_context-same_head : (ctx : Context) → rename_context same_head ctx ≡ ctx
+pub rename_context-same_head : (ctx : Context) → rename_context same_head ctx ≡ ctx
 rename_context-same_head [] = refl
 rename_context-same_head (a ∷ rest) = ap₂ (λ b more. b ∷ more) (rename_type-same_head a) (ap (λ θ. rename_context θ rest) (fun_ext lifted-same_head) ∙ rename_context-same_head rest)
 

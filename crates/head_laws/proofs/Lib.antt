@@ -11,9 +11,11 @@ pub mod MetavariableFailures
 pub mod Lookups
 pub mod Numbers
 pub mod GoalNumbers
+pub mod RenamedGoals
 pub mod OccurrenceLaws
 pub mod ReplacementLaws
 pub mod AssignmentLaws
 pub mod MetavariableLaws
 pub mod LookupLaws
 pub mod GoalListLaws
+pub mod RenamedGoalLaws

@@ -1,5 +1,5 @@
 -- Numbers in lists: their places, those above all, and the way from places to numbers.
-use Rattle.std.proofs.Common.{◌≡◌, ◌≢◌, ℕ, zero, suc, ◌+◌, ◌-◌, ◌<◌, ◌≤◌, max, Bool, true, false, Some, List, [], ◌∷◌, map, length, All, AllPairs, refl, sym, ap, ◌∙◌, arith}
+use Rattle.std.proofs.Common.{◌≡◌, ◌≢◌, ℕ, zero, suc, ◌+◌, ◌-◌, ◌<◌, ◌≤◌, max, Bool, true, false, Some, List, [], ◌∷◌, map, length, All, AllPairs, refl, sym, ap, ap₂, ◌∙◌, arith}
 use Rattle.std.specs.Prelude.{Contains, nat_eq, if◌then◌else◌, slice_get}
 use Rattle.std.specs.Prelude.{slice_index_or as get_or}
 use Rattle.std.proofs.Math.Nat.{le-max_left, le-max_right}
@@ -46,21 +46,22 @@ up_to-place_of (m ∷ rest) k n has = each (nat_eq m n) refl (λ there. up_to-pl
     each true e later = ap (up_to (m ∷ rest) k) (place_of-step m n rest true e) ∙ eqb-true m n e
     each false e later = ap (up_to (m ∷ rest) k) (place_of-step m n rest false e) ∙ later (there_of e has.0 has.1 has.2)
 
--- Numbers that stay different have the same places.
+-- Numbers that stay different are the same where they were.
+pub nat_eq-map : (ρ : ℕ → ℕ) → IsInjective ρ → (m n : ℕ) → nat_eq (ρ m) (ρ n) ≡ nat_eq m n
+nat_eq-map ρ injective m n = each (nat_eq m n) refl
+  where
+    differ : nat_eq m n ≡ false → m ≡ n → ⊥
+    differ e q = let same : nat_eq m n ≡ true = eq-eqb m n q in cc
+
+    each : (b : Bool) → nat_eq m n ≡ b → nat_eq (ρ m) (ρ n) ≡ nat_eq m n
+    each true e = eq-eqb (ρ m) (ρ n) (ap ρ (eqb-true m n e)) ∙ sym e
+    each false e = ne_eqb (ρ m) (ρ n) (λ q. differ e (injective m n q)) ∙ sym e
+
+-- So they have the same places.
 pub place_of-map : (ρ : ℕ → ℕ) → IsInjective ρ → (ns : List ℕ) (n : ℕ) → place_of (map ρ ns) (ρ n) ≡ place_of ns n
 place_of-map ρ injective [] n = refl
-place_of-map ρ injective (m ∷ rest) n = each (nat_eq m n) refl (place_of-map ρ injective rest n)
-  where
-    each : (b : Bool) → nat_eq m n ≡ b → place_of (map ρ rest) (ρ n) ≡ place_of rest n → place_of (map ρ (m ∷ rest)) (ρ n) ≡ place_of (m ∷ rest) n
-    each true e later =
-        let same : nat_eq (ρ m) (ρ n) ≡ true = eq-eqb (ρ m) (ρ n) (ap ρ (eqb-true m n e)) in
-        place_of-step (ρ m) (ρ n) (map ρ rest) true same ∙ sym (place_of-step m n rest true e)
-    each false e later =
-        let apart : nat_eq (ρ m) (ρ n) ≡ false = ne_eqb (ρ m) (ρ n) (λ q. differ (injective m n q)) in
-        place_of-step (ρ m) (ρ n) (map ρ rest) false apart ∙ ap suc later ∙ sym (place_of-step m n rest false e)
-      where
-        differ : m ≡ n → ⊥
-        differ q = let same : nat_eq m n ≡ true = eq-eqb m n q in cc
+place_of-map ρ injective (m ∷ rest) n =
+    ap₂ (λ b k. if b then zero else suc k) (nat_eq-map ρ injective m n) (place_of-map ρ injective rest n)
 
 -- numbers by their places
 pub up_to-inside : (ns : List ℕ) (n i : ℕ) → i < length ns → slice_get ns i ≡ Some (up_to ns n i)

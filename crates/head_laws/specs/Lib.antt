@@ -6,3 +6,4 @@ pub mod AssignmentLaws
 pub mod MetavariableLaws
 pub mod LookupLaws
 pub mod GoalListLaws
+pub mod RenamedGoalLaws

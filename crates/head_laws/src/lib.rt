@@ -9,6 +9,7 @@ ghost use Rattle.head_laws.specs.AssignmentLaws.{AssignmentsCompose, Assignments
 ghost use Rattle.head_laws.specs.MetavariableLaws.{ResultsOfRenamedTermsAreRenamed, InstantiationsAreRenamed, ResultsOfInstantiationAreRenamed, RenamedMetavariablesKeepShapes, TypingIsRenamed, FailuresAreRenamed, MetavariablesOccurRenamed, GoalTypesAreRenamed};
 ghost use Rattle.head_laws.specs.LookupLaws.{TypingLooksUpWhatOccurs, TypedHeadsAreKnown, GoalsMayChange};
 ghost use Rattle.head_laws.specs.GoalListLaws.{AboveIsGreater, FormedGoalsAreClosed, UpToIsByPlace, UpToIsInjective, CanonNumbersByPlace, CanonIsUndone, CanonForgetsNumbers, RenumberedGoalsStayClosed};
+ghost use Rattle.head_laws.specs.RenamedGoalLaws.{SignaturesMentionNoMetavariable, RenamedGoalsHaveTypesRenamed, RenamedGoalsAreFormed};
 
 /// Whether a head occurs in a term, a spine, a type or a context is decided by truth values, and so is whether it does rigidly.
 pub fn occurrence_is_decided()
@@ -158,4 +159,19 @@ pub fn canon_forgets_numbers()
 /// Goals with other numbers are still closed, and their numbers still differ.
 pub fn renumbered_goals_stay_closed()
     ensures { RenumberedGoalsStayClosed }
+{}
+
+/// The kinds and the types of a shaped signature mention no metavariable.
+pub fn signatures_mention_no_metavariable()
+    ensures { SignaturesMentionNoMetavariable }
+{}
+
+/// Among renamed goals each head has its type, renamed.
+pub fn renamed_goals_have_types_renamed()
+    ensures { RenamedGoalsHaveTypesRenamed }
+{}
+
+/// Goals are well formed where they are so under other numbers, or under their places.
+pub fn renamed_goals_are_formed()
+    ensures { RenamedGoalsAreFormed }
 {}
