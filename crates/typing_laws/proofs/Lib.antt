@@ -1,0 +1,6 @@
+pub mod Fixing
+pub mod Binders
+pub mod TypedReplacements
+pub mod Keeping
+pub mod KeepingFormed
+pub mod Laws
