@@ -3,4 +3,5 @@ pub mod Binders
 pub mod TypedReplacements
 pub mod Keeping
 pub mod KeepingFormed
+pub mod Placing
 pub mod Laws
