@@ -5,3 +5,5 @@ pub mod Keeping
 pub mod KeepingFormed
 pub mod Placing
 pub mod Laws
+pub mod Occurring
+pub mod ClosedTypes

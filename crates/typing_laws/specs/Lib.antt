@@ -1,2 +1,3 @@
 pub mod TypedReplacements
 pub mod Laws
+pub mod ClosedTypes

@@ -2,6 +2,7 @@
 //! functions with an empty body, and there is no other code here.
 #![tactic(auto)]
 
+ghost use Rattle.typing_laws.specs.ClosedTypes.{ShapedTypingsAreClosed, SignaturesAreClosed, SignaturesStay, FormedGoalsAreClosed, TypingsAreClosed};
 ghost use Rattle.typing_laws.specs.Laws.{ReplacementsKeepTypes, TypedTermsHaveResults, ReplacementsKeepWhatIsFormed, SubstitutionsKeepTypes, SubstitutionsKeepWhatIsFormed};
 
 /// A replacement that goes from one typing to another keeps the types of terms and of arguments.
@@ -27,4 +28,29 @@ pub fn substitutions_keep_types()
 /// A typed list, put for the innermost variables outside local binders, keeps well-formed types and contexts.
 pub fn substitutions_keep_what_is_formed()
     ensures { SubstitutionsKeepWhatIsFormed }
+{}
+
+/// Where all types of heads are shaped, those of constants and metavariables speak of no variable, and neither do the kinds.
+pub fn shaped_typings_are_closed()
+    ensures { ShapedTypingsAreClosed }
+{}
+
+/// In a well-formed signature types and kinds speak of no variable and of no metavariable.
+pub fn signatures_are_closed()
+    ensures { SignaturesAreClosed }
+{}
+
+/// What keeps constants leaves the types and kinds of a well-formed signature as they are.
+pub fn signatures_stay()
+    ensures { SignaturesStay }
+{}
+
+/// The types of well-formed goals speak of no variable, and the goals are shaped.
+pub fn formed_goals_are_closed()
+    ensures { FormedGoalsAreClosed }
+{}
+
+/// Over a well-formed signature and well-formed goals, constants and metavariables have closed types in every context.
+pub fn typings_are_closed()
+    ensures { TypingsAreClosed }
 {}
