@@ -9,7 +9,7 @@ use Rattle.lf_definitions.specs.ShapedGoals.{ShapedContext, shaped_empty, shaped
 use Rattle.lf_definitions.specs.Replacements.{Goes}
 use Rattle.lf_definitions.proofs.Renaming.{Follows, Follows-up, SubstitutedType-rename_type}
 use Rattle.lf_definitions.proofs.Totality.{Goes-up}
-use Rattle.lf_definitions.proofs.Types.{shape_of-SubstitutedType, ShapedType-SubstitutedType}
+use Rattle.lf_definitions.proofs.Types.{shape_of-SubstitutedType, total_type, ShapedType-SubstitutedType}
 use Rattle.lf_definitions.proofs.Telescopes.{arity-arrows}
 
 abbrev pub Split : Replacement → Context → ℕ → Spine → LfType → Type 0
@@ -68,3 +68,11 @@ ShapedContext-SubstitutedContext p kinds Γ Δ σ goes (shaped_entry {a = a} x x
     shaped_entry (ShapedType-SubstitutedType p kinds Γ Δ σ goes x q)
     (subst (λ s. ShapedContext kinds (under s Δ) more) (sym (shape_of-SubstitutedType q))
     (ShapedContext-SubstitutedContext p kinds (under (shape_of a) Γ) (under (shape_of a) Δ) (up σ) (Goes-up p Γ Δ σ (shape_of a) goes) xs qs))
+
+-- Every shaped substitution has a result in a shaped context.
+pub total_context : (p : ℕ) {kinds : ℕ → Option SimpleType} {Γ : Scope} {ctx : Context} → ShapedContext kinds Γ ctx → (Δ : Scope) (σ : Replacement) → Goes p Γ Δ σ → (more : Context) × SubstitutedContext σ ctx more
+total_context p shaped_empty Δ σ goes = ([], substituted_empty)
+total_context p (shaped_entry {Γ = Γ} {a = a} x xs) Δ σ goes =
+    let c = total_type p x Δ σ goes in
+    let r = total_context p xs (under (shape_of a) Δ) (up σ) (Goes-up p Γ Δ σ (shape_of a) goes) in
+    (c.0 ∷ r.0, substituted_entry c.1 r.1)

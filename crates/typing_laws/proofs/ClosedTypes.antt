@@ -68,7 +68,7 @@ signatures_are_closed sig formed =
     fixes v (metavariable g) s e = absurd cc
 
 -- what keeps constants
-pub Keeps-constants : (sig : LfSignature) (σ : Replacement) → ((c : ℕ) → σ (constant c) ≡ stays (constant c)) → Keeps (constants_only sig) σ
+Keeps-constants : (sig : LfSignature) (σ : Replacement) → ((c : ℕ) → σ (constant c) ≡ stays (constant c)) → Keeps (constants_only sig) σ
 Keeps-constants sig σ keeps (bound n) s e = absurd cc
 Keeps-constants sig σ keeps (constant c) s e = keeps c
 Keeps-constants sig σ keeps (metavariable g) s e = absurd cc
@@ -78,13 +78,13 @@ Fixes-constants sig ξ keeps (bound n) s e = absurd cc
 Fixes-constants sig ξ keeps (constant c) s e = keeps c
 Fixes-constants sig ξ keeps (metavariable g) s e = absurd cc
 
+pub Keeps-without_variables : (sig : LfSignature) (σ : Replacement) → ((c : ℕ) → σ (constant c) ≡ stays (constant c)) → Keeps (without_variables (shapes_of (typing_in sig [] []))) σ
+Keeps-without_variables sig σ keeps (bound n) s e = absurd cc
+Keeps-without_variables sig σ keeps (constant c) s e = keeps c
+Keeps-without_variables sig σ keeps (metavariable g) s e = absurd cc
+
 pub KeepsKinds-constants : (sig : LfSignature) → ShapedSignature sig → (σ : Replacement) → ((c : ℕ) → σ (constant c) ≡ stays (constant c)) → KeepsKinds (kinds_in sig) σ
-KeepsKinds-constants sig shaped σ keeps f kind e = kept_context (kind_shaped sig shaped f kind e) σ kept
-  where
-    kept : Keeps (without_variables (shapes_of (typing_in sig [] []))) σ
-    kept (bound n) s e = absurd cc
-    kept (constant c) s e = keeps c
-    kept (metavariable g) s e = absurd cc
+KeepsKinds-constants sig shaped σ keeps f kind e = kept_context (kind_shaped sig shaped f kind e) σ (Keeps-without_variables sig σ keeps)
 
 pub signatures_stay : SignaturesStay
 signatures_stay sig formed =

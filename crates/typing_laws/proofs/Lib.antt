@@ -7,3 +7,4 @@ pub mod Placing
 pub mod Laws
 pub mod Occurring
 pub mod ClosedTypes
+pub mod Instantiation

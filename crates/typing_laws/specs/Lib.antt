@@ -1,3 +1,4 @@
 pub mod TypedReplacements
 pub mod Laws
 pub mod ClosedTypes
+pub mod InstantiationLaws

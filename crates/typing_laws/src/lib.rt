@@ -3,6 +3,7 @@
 #![tactic(auto)]
 
 ghost use Rattle.typing_laws.specs.ClosedTypes.{ShapedTypingsAreClosed, SignaturesAreClosed, SignaturesStay, FormedGoalsAreClosed, TypingsAreClosed};
+ghost use Rattle.typing_laws.specs.InstantiationLaws.{InstantiationsKeepTypes, InstantiationsHaveResults, InstantiationsKeepWhatIsFormed};
 ghost use Rattle.typing_laws.specs.Laws.{ReplacementsKeepTypes, TypedTermsHaveResults, ReplacementsKeepWhatIsFormed, SubstitutionsKeepTypes, SubstitutionsKeepWhatIsFormed};
 
 /// A replacement that goes from one typing to another keeps the types of terms and of arguments.
@@ -53,4 +54,19 @@ pub fn formed_goals_are_closed()
 /// Over a well-formed signature and well-formed goals, constants and metavariables have closed types in every context.
 pub fn typings_are_closed()
     ensures { TypingsAreClosed }
+{}
+
+/// An assignment that keeps the types of goals keeps those of terms and of arguments, in every context. No order among the goals is asked for.
+pub fn instantiations_keep_types()
+    ensures { InstantiationsKeepTypes }
+{}
+
+/// Under such an assignment contexts, types and typed terms have results.
+pub fn instantiations_have_results()
+    ensures { InstantiationsHaveResults }
+{}
+
+/// It keeps well-formed types, contexts and goals.
+pub fn instantiations_keep_what_is_formed()
+    ensures { InstantiationsKeepWhatIsFormed }
 {}
