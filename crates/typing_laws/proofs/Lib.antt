@@ -8,3 +8,4 @@ pub mod Laws
 pub mod Occurring
 pub mod ClosedTypes
 pub mod Instantiation
+pub mod EtaTyping

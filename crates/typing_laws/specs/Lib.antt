@@ -2,3 +2,4 @@ pub mod TypedReplacements
 pub mod Laws
 pub mod ClosedTypes
 pub mod InstantiationLaws
+pub mod EtaLaws

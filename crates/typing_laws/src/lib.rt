@@ -3,6 +3,7 @@
 #![tactic(auto)]
 
 ghost use Rattle.typing_laws.specs.ClosedTypes.{ShapedTypingsAreClosed, SignaturesAreClosed, SignaturesStay, FormedGoalsAreClosed, TypingsAreClosed};
+ghost use Rattle.typing_laws.specs.EtaLaws.{EtaFormsHaveTheirTypes, OwnVariablesAreTyped, ExpansionsHaveTheirTypes};
 ghost use Rattle.typing_laws.specs.InstantiationLaws.{InstantiationsKeepTypes, InstantiationsHaveResults, InstantiationsKeepWhatIsFormed};
 ghost use Rattle.typing_laws.specs.Laws.{ReplacementsKeepTypes, TypedTermsHaveResults, ReplacementsKeepWhatIsFormed, SubstitutionsKeepTypes, SubstitutionsKeepWhatIsFormed};
 
@@ -69,4 +70,19 @@ pub fn instantiations_have_results()
 /// It keeps well-formed types, contexts and goals.
 pub fn instantiations_keep_what_is_formed()
     ensures { InstantiationsKeepWhatIsFormed }
+{}
+
+/// The eta-long form of a head has the head's type.
+pub fn eta_forms_have_their_types()
+    ensures { EtaFormsHaveTheirTypes }
+{}
+
+/// A context's own variables have the types of its entries.
+pub fn own_variables_are_typed()
+    ensures { OwnVariablesAreTyped }
+{}
+
+/// A head whose first arguments have their types, made eta-long, has the type of what it still takes.
+pub fn expansions_have_their_types()
+    ensures { ExpansionsHaveTheirTypes }
 {}
