@@ -4,4 +4,3 @@ pub mod MarkSteps
 pub mod MarkPrefixes
 mod KeptTexts
 pub mod TextSteps
-pub mod TestValues

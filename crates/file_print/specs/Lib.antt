@@ -3,4 +3,3 @@ pub mod Texts
 pub mod Printable
 pub mod Marks
 pub mod Parts
-pub mod Tests
