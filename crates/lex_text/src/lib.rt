@@ -1,4 +1,4 @@
-//! The tokens of a text. It stands on no crate of the repository; characters of names are told by
+//! The tokens of a text. The limit on names is that of `basics`; characters of names are told by
 //! `unicode_ident`.
 //! Proved: `tokens` answers exactly the tokens of the text, and each refusal exactly at its place.
 #![tactic(auto)]

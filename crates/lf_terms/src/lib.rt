@@ -1,8 +1,6 @@
-//! What every layer shares: out of memory, names and their look-up, short lists of numbers, bytes
-//! and names; the terms of LF with their shapes and types, goals, and signatures. Contracts see a name
-//! as its bytes, a list as the list of its entries, and terms, shapes, types, goals and signatures as
-//! the plain data of `lf_definitions`, which alone stands below. Copies of terms share structure, of
-//! which no contract tells.
+//! The terms of LF with their shapes and types, goals, and signatures. Contracts see terms, shapes, types,
+//! goals and signatures as the plain data of `lf_definitions`; names, numbers and bytes are those of
+//! `basics`. Copies of terms share structure, of which no contract tells.
 //! Proved: substitution, eta-long forms, shapes and equality meet their definitions, and a signature
 //! is well formed and finds its names.
 #![tactic(auto)]

@@ -1,6 +1,6 @@
 //! The outside: a source of bytes and a sink for bytes, as traits whose faults are counted, ends
 //! in memory that fail where they are told to or never, ends over std's reader and writer, and
-//! whole reads and writes over any of them. `lf_terms` stands below.
+//! whole reads and writes over any of them. `basics` stands below.
 //! Proved: a fault is answered only where the end's own count rose, and what was read and written
 //! is exactly what left the source and reached the sink, where these tell their bytes.
 #![tactic(auto)]

@@ -1,5 +1,5 @@
 //! What small programs declare: families without arguments, constants whose binders have no binders,
-//! theorems of one family, and unsafe apply rules. Names, lists and bytes are those of `lf_terms`.
+//! theorems of one family, and unsafe apply rules. Names, lists and bytes are those of `basics`.
 #![tactic(auto)]
 
 pub mod small;
