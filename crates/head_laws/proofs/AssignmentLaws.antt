@@ -1,10 +1,13 @@
 -- The laws of assignments, as they are stated.
-use Rattle.std.proofs.Common.{◌+◌, ◌↔◌, length}
+use Rattle.std.proofs.Common.{sym, ◌∙◌, ◌+◌, ◌↔◌, length}
 use Rattle.lf_definitions.specs.Instantiation.{instantiating}
 use Rattle.lf_definitions.specs.Shaping.{under_all}
 use Rattle.lf_definitions.specs.Laws.{image}
 use Rattle.head_laws.specs.AssignmentLaws.{AssignmentsCompose, AssignmentsHaveAComposite, InstantiationGoesAlongWithSubstitution}
-use Rattle.head_laws.proofs.Results.{compose_term, compose_spine, compose_type, compose_context}
+use Rattle.lf_definitions.specs.Syntax.{atomic}
+use Rattle.lf_definitions.specs.Typing.{goal_type}
+use Rattle.lf_definitions.proofs.ShapedGoals.{ShapedType-pis}
+use Rattle.head_laws.proofs.Results.{SubstitutedType-goal_type, InstantiatedGoal-goal_type, compose_term, compose_spine, compose_type, compose_context}
 use Rattle.head_laws.proofs.Known.{Goes-then, compose_known_term, compose_known_spine, compose_known_type, compose_known_context}
 use Rattle.head_laws.proofs.Assignments.{IsThenOn-after, after_exists, substituting, size_of_inner, goes_list, goes_after, goes_before, goes_later, goes_together, list_then, then_list}
 
@@ -15,6 +18,12 @@ assignments_compose p q Γ Δ Θ σ τ ρ goes goes_τ after =
       compose_known_spine p q Γ Δ Θ (instantiating σ) (instantiating τ) (instantiating ρ) goes goes_τ then,
       compose_known_type p q Γ Δ Θ (instantiating σ) (instantiating τ) (instantiating ρ) goes goes_τ then,
       compose_known_context p q Γ Δ Θ (instantiating σ) (instantiating τ) (instantiating ρ) goes goes_τ then,
+      (λ kinds g h k shaped r.
+          let c = compose_known_type p q Γ Δ Θ (instantiating σ) (instantiating τ) (instantiating ρ) goes goes_τ then kinds (goal_type g) (goal_type h) (goal_type k)
+          (ShapedType-pis g.context (atomic g.target) shaped.0 shaped.1) (SubstitutedType-goal_type σ g h r) in (
+            (λ x. InstantiatedGoal-goal_type ρ g k (x.same_id ∙ r.same_id) (c.0 (SubstitutedType-goal_type τ h k x))),
+            (λ x. InstantiatedGoal-goal_type τ h k (x.same_id ∙ sym r.same_id) (c.1 (SubstitutedType-goal_type ρ g k x))),
+          )),
     )
 
 pub assignments_have_a_composite : AssignmentsHaveAComposite

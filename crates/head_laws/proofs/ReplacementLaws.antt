@@ -1,8 +1,10 @@
 -- The laws of replacements, as they are stated.
 use Rattle.lf_definitions.proofs.Uniqueness.{unique_type}
 use Rattle.lf_definitions.proofs.Types.{total_type}
-use Rattle.head_laws.specs.ReplacementLaws.{TypesAndContextsHaveOneResult, ReplacementsCompose}
-use Rattle.head_laws.proofs.Results.{unique_context, total_context, total_goal, unique_goal, compose_term, compose_spine, compose_type, compose_context}
+use Rattle.head_laws.specs.ReplacementLaws.{TypesAndContextsHaveOneResult, ReplacementsCompose, GoalsAreInstantiatedAsTypes}
+use Rattle.head_laws.proofs.Results.{unique_context, total_context, total_goal, unique_goal, compose_term, compose_spine, compose_type, compose_context, SubstitutedType-goal_type, InstantiatedGoal-goal_type}
+use Rattle.lf_definitions.specs.Syntax.{atomic}
+use Rattle.lf_definitions.proofs.ShapedGoals.{ShapedType-pis, ShapedContext-pis, ShapedType-under_pis}
 
 pub types_and_contexts_have_one_result : TypesAndContextsHaveOneResult
 types_and_contexts_have_one_result p kinds Γ Δ = (
@@ -17,4 +19,10 @@ replacements_compose p q m Γ Δ Θ σ τ ρ goes goes_τ then goes_ρ = (
   compose_spine p q m Γ Δ Θ σ τ ρ goes goes_τ then goes_ρ,
   compose_type p q m Γ Δ Θ σ τ ρ goes goes_τ then goes_ρ,
   compose_context p q m Γ Δ Θ σ τ ρ goes goes_τ then goes_ρ,
+)
+
+pub goals_are_instantiated_as_types : GoalsAreInstantiatedAsTypes
+goals_are_instantiated_as_types = (
+  (λ σ g h. (λ p. (p.same_id, SubstitutedType-goal_type σ g h p), λ p. InstantiatedGoal-goal_type σ g h p.0 p.1)),
+  (λ kinds Γ g. (λ p. ShapedType-pis g.context (atomic g.target) p.0 p.1, λ p. (ShapedContext-pis g.context (atomic g.target) p, ShapedType-under_pis g.context (atomic g.target) p))),
 )

@@ -1,12 +1,12 @@
 -- Results of replacements in contexts and goals, and one replacement after another.
 use Rattle.std.proofs.Common.{◌≡◌, ℕ, suc, ◌↔◌, Option, [], ◌∷◌, length, refl, sym, ap, ap₂, ◌∙◌, subst}
-use Rattle.lf_definitions.specs.Syntax.{LfTerm, Spine, LfType, Context, SimpleType, LfAtom, atomic, conclusion_atom, shape_of, shapes_of_types}
+use Rattle.lf_definitions.specs.Syntax.{pis, LfTerm, Spine, LfType, Context, SimpleType, LfAtom, atomic, conclusion_atom, shape_of, shapes_of_types}
 use Rattle.lf_definitions.specs.Shaping.{Scope, under, under_all, Shaped, ShapedSpine, ShapedType, shaped_family}
 use Rattle.lf_definitions.specs.ShapedGoals.{ShapedContext, shaped_empty, shaped_entry}
-use Rattle.lf_definitions.specs.Substitution.{Replacement, up, up_by, Substituted, SubstitutedSpine, SubstitutedType, substituted_family, SubstitutedContext, substituted_empty, substituted_entry}
+use Rattle.lf_definitions.specs.Substitution.{Replacement, up, up_by, Substituted, SubstitutedSpine, SubstitutedType, substituted_pi, substituted_family, SubstitutedContext, substituted_empty, substituted_entry}
 use Rattle.lf_definitions.specs.Replacements.{Goes, IsThen}
-use Rattle.lf_definitions.specs.Typing.{LfGoal}
-use Rattle.lf_definitions.specs.Instantiation.{Assignment, instantiating, InstantiatedGoal}
+use Rattle.lf_definitions.specs.Typing.{LfGoal, goal_type}
+use Rattle.lf_definitions.specs.Instantiation.{Assignment, instantiating, InstantiatedType, InstantiatedGoal}
 use Rattle.lf_definitions.proofs.Uniqueness.{unique, unique_spine, unique_type}
 use Rattle.lf_definitions.proofs.Totality.{Goes-up, total, total_spine}
 use Rattle.lf_definitions.proofs.Composition.{IsThen-up, composes, composes_spine}
@@ -67,6 +67,26 @@ unique_goal σ g h k p q =
     let contexts : h.context ≡ k.context = unique_context p.of_context q.of_context in
     let targets : h.target ≡ k.target = ap conclusion_atom (unique_type p.of_target q.of_target) in
     ap (λ n. goal_of n h.context h.target) ids ∙ ap₂ (goal_of k.id) contexts targets
+
+-- Binders over a type, part by part.
+split_pis : {σ : Replacement} (ctx results : Context) (a b : LfAtom) → SubstitutedType σ (pis ctx (atomic a)) (pis results (atomic b)) →
+    SubstitutedContext σ ctx results × SubstitutedType (up_by (length ctx) σ) (atomic a) (atomic b)
+split_pis [] [] a b p = (substituted_empty, p)
+split_pis [] (c ∷ results) a b p = elim p [ ]
+split_pis (d ∷ ctx) [] a b p = elim p [ ]
+split_pis (d ∷ ctx) (c ∷ results) a b (substituted_pi p q) = let r = split_pis ctx results a b q in (substituted_entry p r.0, r.1)
+
+join_pis : {σ : Replacement} {ctx results : Context} → SubstitutedContext σ ctx results → (a b : LfType) → SubstitutedType (up_by (length ctx) σ) a b → SubstitutedType σ (pis ctx a) (pis results b)
+join_pis substituted_empty a b p = p
+join_pis (substituted_entry q qs) a b p = substituted_pi q (join_pis qs a b p)
+
+pub SubstitutedType-goal_type : (σ : Assignment) (g h : LfGoal) → InstantiatedGoal σ g h → InstantiatedType σ (goal_type g) (goal_type h)
+SubstitutedType-goal_type σ g h p = join_pis p.of_context (atomic g.target) (atomic h.target) p.of_target
+
+pub InstantiatedGoal-goal_type : (σ : Assignment) (g h : LfGoal) → h.id ≡ g.id → InstantiatedType σ (goal_type g) (goal_type h) → InstantiatedGoal σ g h
+InstantiatedGoal-goal_type σ g h same p =
+    let parts = split_pis g.context h.context g.target h.target p in
+    record { same_id = same; of_context = parts.0; of_target = parts.1 }
 
 -- One replacement after another.
 pub composes_context : (p q : ℕ) {kinds : ℕ → Option SimpleType} {Γ : Scope} {ctx : Context} → ShapedContext kinds Γ ctx → (Δ Θ : Scope) (σ τ ρ : Replacement) → Goes p Γ Δ σ → Goes q Δ Θ τ → IsThen σ τ ρ →

@@ -6,8 +6,10 @@ use Rattle.lf_definitions.specs.ShapedGoals.{ShapedContext}
 use Rattle.lf_definitions.specs.Substitution.{Substitutes, SubstitutesSpine, SubstitutedType, SubstitutedContext}
 use Rattle.lf_definitions.specs.Replacements.{Goes, Then}
 use Rattle.lf_definitions.specs.Occurrence.{OccursIn}
-use Rattle.lf_definitions.specs.Instantiation.{Assignment, assigned, instantiating, Instantiated, InstantiatedSpine, InstantiatedType, InstantiatedContext}
+use Rattle.lf_definitions.specs.Instantiation.{Assignment, assigned, instantiating, Instantiated, InstantiatedSpine, InstantiatedType, InstantiatedContext, InstantiatedGoal}
 use Rattle.lf_definitions.specs.Laws.{image}
+use Rattle.lf_definitions.specs.Typing.{LfGoal}
+use Rattle.head_laws.specs.ReplacementLaws.{ShapedGoalOver}
 
 -- `ρ` does to each metavariable that is known what `σ` and then `τ` do.
 abbrev pub IsAfter : Scope → Assignment → Assignment → Assignment → Type 0
@@ -22,6 +24,7 @@ AssignmentsCompose =
     × ((kinds : ℕ → Option SimpleType) (a b c : LfType) → ShapedType kinds Γ a → InstantiatedType σ a b → InstantiatedType τ b c ↔ InstantiatedType ρ a c)
     × ((kinds : ℕ → Option SimpleType) (ctx first second : Context) → ShapedContext kinds Γ ctx → InstantiatedContext σ ctx first →
     InstantiatedContext τ first second ↔ InstantiatedContext ρ ctx second)
+    × ((kinds : ℕ → Option SimpleType) (g h k : LfGoal) → ShapedGoalOver kinds Γ g → InstantiatedGoal σ g h → InstantiatedGoal τ h k ↔ InstantiatedGoal ρ g k)
 
 -- There is such an assignment, and each goes from the first scope to the last.
 abbrev pub AssignmentsHaveAComposite : Type 0

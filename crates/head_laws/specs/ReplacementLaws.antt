@@ -5,8 +5,8 @@ use Rattle.lf_definitions.specs.Shaping.{Scope, under_all, Shaped, ShapedSpine, 
 use Rattle.lf_definitions.specs.ShapedGoals.{ShapedContext}
 use Rattle.lf_definitions.specs.Substitution.{Replacement, Substituted, SubstitutedSpine, SubstitutedType, SubstitutedContext}
 use Rattle.lf_definitions.specs.Replacements.{Goes, IsThen}
-use Rattle.lf_definitions.specs.Typing.{LfGoal}
-use Rattle.lf_definitions.specs.Instantiation.{Assignment, instantiating, InstantiatedGoal}
+use Rattle.lf_definitions.specs.Typing.{LfGoal, goal_type}
+use Rattle.lf_definitions.specs.Instantiation.{Assignment, instantiating, InstantiatedType, InstantiatedGoal}
 
 -- A goal is shaped over a scope where its context is, and its target in that context.
 abbrev pub ShapedGoalOver : (ℕ → Option SimpleType) → Scope → LfGoal → Type 0
@@ -32,3 +32,9 @@ ReplacementsCompose =
     × ((kinds : ℕ → Option SimpleType) (a b c : LfType) → ShapedType kinds Γ a → SubstitutedType σ a b → SubstitutedType τ b c ↔ SubstitutedType ρ a c)
     × ((kinds : ℕ → Option SimpleType) (ctx first second : Context) → ShapedContext kinds Γ ctx → SubstitutedContext σ ctx first →
     SubstitutedContext τ first second ↔ SubstitutedContext ρ ctx second)
+
+-- To instantiate a goal is to keep its number and to instantiate its type as a metavariable, and it is shaped where that type is.
+abbrev pub GoalsAreInstantiatedAsTypes : Type 0
+GoalsAreInstantiatedAsTypes =
+    ((σ : Assignment) (g h : LfGoal) → InstantiatedGoal σ g h ↔ (h.id ≡ g.id) × InstantiatedType σ (goal_type g) (goal_type h))
+    × ((kinds : ℕ → Option SimpleType) (Γ : Scope) (g : LfGoal) → ShapedGoalOver kinds Γ g ↔ ShapedType kinds Γ (goal_type g))

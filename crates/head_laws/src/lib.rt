@@ -4,7 +4,7 @@
 #![tactic(auto)]
 
 ghost use Rattle.head_laws.specs.OccurrenceLaws.{OccurrenceIsDecided, RenamingsAgree, OccurrencesAreRenamed, ReplacementsAgree, UnreplacedTermsStay, ResultsMention};
-ghost use Rattle.head_laws.specs.ReplacementLaws.{TypesAndContextsHaveOneResult, ReplacementsCompose};
+ghost use Rattle.head_laws.specs.ReplacementLaws.{TypesAndContextsHaveOneResult, ReplacementsCompose, GoalsAreInstantiatedAsTypes};
 ghost use Rattle.head_laws.specs.AssignmentLaws.{AssignmentsCompose, AssignmentsHaveAComposite, InstantiationGoesAlongWithSubstitution};
 ghost use Rattle.head_laws.specs.MetavariableLaws.{ResultsOfRenamedTermsAreRenamed, InstantiationsAreRenamed, ResultsOfInstantiationAreRenamed, RenamedMetavariablesKeepShapes, TypingIsRenamed, FailuresAreRenamed, MetavariablesOccurRenamed, GoalTypesAreRenamed};
 ghost use Rattle.head_laws.specs.LookupLaws.{TypingLooksUpWhatOccurs, TypedHeadsAreKnown, GoalsMayChange};
@@ -49,6 +49,11 @@ pub fn types_and_contexts_have_one_result()
 /// One replacement after another is one that does to each head what they do.
 pub fn replacements_compose()
     ensures { ReplacementsCompose }
+{}
+
+/// A goal is instantiated, and shaped, as its type is.
+pub fn goals_are_instantiated_as_types()
+    ensures { GoalsAreInstantiatedAsTypes }
 {}
 
 /// One assignment after another is one that does to each metavariable that is known what they do.
