@@ -7,3 +7,4 @@ pub mod MetavariableLaws
 pub mod LookupLaws
 pub mod GoalListLaws
 pub mod RenamedGoalLaws
+pub mod Openings
