@@ -1,15 +1,16 @@
 -- The steps of a substitution: what each asks follows from what was asked before, and what each gives makes up the result.
 use Rattle.std.proofs.Common.{◌≡◌, ℕ, zero, suc, ◌+◌, ◌-◌, ◌<◌, ◌≤◌, Some, List, [], ◌∷◌, ◌++◌, length, get_or, refl, sym, ap, ap₂, ◌∙◌, subst, subst₂, arith, add-one, length-append}
 use mathlib.Core.Path.{fun_ext}
-use Rattle.lf_definitions.specs.Syntax.{LfHead, bound, constant, metavariable, LfTerm, lam, at, Spine, no_args, arg, SimpleType, base, arrows, shape_size, shapes_size, args_count, arg_at, lams, joined}
+use Rattle.lf_definitions.specs.Syntax.{LfHead, bound, constant, metavariable, LfTerm, lam, at, LfType, Spine, no_args, arg, SimpleType, base, arrows, shape_size, shapes_size, args_count, arg_at, lams, joined}
 use Rattle.lf_definitions.specs.Renaming.{next, Renaming, lifted, rename, next_by, lifted_by}
 use Rattle.lf_definitions.specs.Shaping.{Scope, under, under_all, Shaped, shaped_lam, shaped_at, ShapedSpine, shaped_none, shaped_arg, shape_at, ShapedList}
-use Rattle.lf_definitions.specs.Substitution.{stays, becomes, rename_image, Replacement, up, up_by, push, push_all, Substituted, substituted_lam, substituted_stays, substituted_becomes, SubstitutedSpine, substituted_none, substituted_arg, Applied}
+use Rattle.lf_definitions.specs.Substitution.{stays, becomes, rename_image, Replacement, up, up_by, push, push_all, Substituted, substituted_lam, substituted_stays, substituted_becomes, SubstitutedSpine, substituted_none, substituted_arg, Applied, SubstitutedType}
 use Rattle.lf_definitions.proofs.Uniqueness.{unique_spine}
 use Rattle.lf_definitions.proofs.Renaming.{extended-next, each_head, same_head, rename-same_head, Substituted-rename}
 use Rattle.lf_definitions.specs.Replacements.{fits_stays, Goes}
 use Rattle.lf_definitions.proofs.Totality.{Shaped-Substituted, ShapedSpine-SubstitutedSpine}
 use Rattle.lf_definitions.proofs.Expansion.{rename_image-same_head, stripped, args_count-arity, Applied-lams, rename-lams}
+use Rattle.lf_definitions.proofs.Types.{ShapedType-SubstitutedType}
 use Rattle.lf_definitions.proofs.Telescopes.{under_all-append, args_count-length, arguments-arrows, Shaped-arg_at, Goes-push_all, Goes-up_by, next_by-bound, next_by-constant, next_by-metavariable, up_by-bound_small, up_by-bound, up_by-constant, up_by-metavariable, push_all-bound, push_all-bound_greater, push_all-constant, push_all-metavariable, under_all-next_by_length}
 use Rattle.lf_definitions.proofs.Options.{Some-Some}
 use Rattle.lf_terms.specs.declared.term.Term.{Term}
@@ -18,7 +19,7 @@ use Rattle.lf_terms.specs.Terms.{term_of, spine_of}
 use Rattle.lf_terms.specs.Shapes.{simple_type_of, simple_types_of}
 use Rattle.lf_terms.proofs.Spines.{args_count-spine_of, arg_at-spine_of}
 use Rattle.lf_terms.proofs.ShapeLists.{length-simple_types_of, shape_at-simple_types_of}
-use Rattle.lf_terms.specs.Putting.{putting, PutAt, put_stays, put_becomes, Puts, TermShaped, ArgsShaped, HeadShaped, HasLams}
+use Rattle.lf_terms.specs.Putting.{putting, PutAt, put_stays, put_becomes, Puts, TermShaped, ArgsShaped, TypeShaped, HeadShaped, HasLams, TermStaysShaped, ArgsStayShaped, TypeStaysShaped}
 use Rattle.lf_terms.proofs.Walks.{walk, walks, deeper, apply_walk, head_walk, walks_sound, walk_same, walk-rename, apply_walk-lams, arg_cost}
 
 -- Local binders.
@@ -83,6 +84,19 @@ putting_goes sub shapes by d H p =
     subst (λ n. Goes (shapes_size shapes) (under_all p.local (under_all shapes p.outer)) (under_all p.local p.target) (up_by n (push_all sub σ))) p.depth_is
     (Goes-up_by (shapes_size shapes) p.local (under_all shapes p.outer) p.target (push_all sub σ)
     (Goes-push_all (shapes_size shapes) shapes sub p.outer p.target σ (λ h s e. fits_stays (p.keeps h s e)) p.shaped_sub (omega arith)))
+
+-- What is shaped has a shaped result.
+pub term_stays_shaped : (sub : Spine) (shapes : List SimpleType) (by d : ℕ) (t r : LfTerm) → Substituted (putting sub by d) t r → TermStaysShaped sub shapes by d t r
+term_stays_shaped sub shapes by d t r result p =
+    Shaped-Substituted (shapes_size shapes) (under_all p.local (under_all shapes p.outer)) (under_all p.local p.target) (putting sub by d) (putting_goes sub shapes by d (TermShaped t) p) p.shaped result
+
+pub args_stay_shaped : (sub : Spine) (shapes : List SimpleType) (by d : ℕ) (ts rs : Spine) → SubstitutedSpine (putting sub by d) ts rs → ArgsStayShaped sub shapes by d ts rs
+args_stay_shaped sub shapes by d ts rs results p =
+    ShapedSpine-SubstitutedSpine (shapes_size shapes) (under_all p.local (under_all shapes p.outer)) (under_all p.local p.target) (putting sub by d) (putting_goes sub shapes by d (ArgsShaped ts) p) p.shaped results
+
+pub type_stays_shaped : (sub : Spine) (shapes : List SimpleType) (by d : ℕ) (a b : LfType) → SubstitutedType (putting sub by d) a b → TypeStaysShaped sub shapes by d a b
+type_stays_shaped sub shapes by d a b result p =
+    ShapedType-SubstitutedType (shapes_size shapes) p.shaped.0 (under_all p.local (under_all shapes p.outer)) (under_all p.local p.target) (putting sub by d) (putting_goes sub shapes by d (TypeShaped a) p) p.shaped.1 result
 
 pub puts_head : (sub : Spine) (shapes : List SimpleType) (by d : ℕ) (h : LfHead) (ts vs : Spine) → Puts sub shapes by d (TermShaped (at h ts)) → SubstitutedSpine (putting sub by d) ts vs →
     Puts sub shapes by d (HeadShaped h vs)

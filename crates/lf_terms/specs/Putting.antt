@@ -34,6 +34,16 @@ ArgsShaped ts Γ Δ s = ShapedSpine Γ ts s
 abbrev pub TypeShaped : LfType → Scope → Scope → SimpleType → Type 0
 TypeShaped a Γ Δ s = (kinds : ℕ → Option SimpleType) × ShapedType kinds Γ a
 
+-- Whatever scopes the list goes between, what is shaped in the first has a result that is shaped alike in the second.
+abbrev pub TermStaysShaped : Spine → List SimpleType → ℕ → ℕ → LfTerm → LfTerm → Type 0
+TermStaysShaped sub shapes by depth t r = (p : Puts sub shapes by depth (TermShaped t)) → Shaped (under_all p.local p.target) r p.shape
+
+abbrev pub ArgsStayShaped : Spine → List SimpleType → ℕ → ℕ → Spine → Spine → Type 0
+ArgsStayShaped sub shapes by depth ts rs = (p : Puts sub shapes by depth (ArgsShaped ts)) → ShapedSpine (under_all p.local p.target) rs p.shape
+
+abbrev pub TypeStaysShaped : Spine → List SimpleType → ℕ → ℕ → LfType → LfType → Type 0
+TypeStaysShaped sub shapes by depth a b = (p : Puts sub shapes by depth (TypeShaped a)) → ShapedType p.shaped.0 (under_all p.local p.target) b
+
 -- a head before, with the results of its arguments after
 abbrev pub HeadShaped : LfHead → Spine → Scope → Scope → SimpleType → Type 0
 HeadShaped h vs Γ Δ s = (Γ h ≡ Some s) × ShapedSpine Δ vs s

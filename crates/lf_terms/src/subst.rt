@@ -4,7 +4,7 @@ ghost use Rattle.std.specs.Prelude.{◌≡◌, ◌++◌, IfOk};
 ghost use Rattle.lf_definitions.specs.Syntax.{bound, lams};
 ghost use Rattle.lf_definitions.specs.Shaping.{Shaped, ShapedList, shapes_in};
 ghost use Rattle.lf_definitions.specs.Substitution.{Substituted, SubstitutedSpine, Substitutes, SubstitutedType};
-ghost use Rattle.lf_terms.specs.Putting.{putting, PutAt, Puts, TermShaped, ArgsShaped, TypeShaped, HeadShaped, HasLams};
+ghost use Rattle.lf_terms.specs.Putting.{putting, PutAt, Puts, TermShaped, ArgsShaped, TypeShaped, HeadShaped, HasLams, TermStaysShaped, ArgsStayShaped, TypeStaysShaped};
 ghost use Rattle.lf_terms.specs.Shapes.{simple_type_of, simple_types_of};
 ghost use Rattle.lf_terms.specs.Terms.{term_of, spine_of};
 ghost use Rattle.lf_terms.specs.Types.{type_of};
@@ -38,7 +38,8 @@ pub fn subst(
 }
 
 /// A term with `sub`, whose shapes are `shapes`, put for its innermost variables. The numbers of the other
-/// variables fall by as many and rise by `by`. Scopes before and after are asked for in which this is shaped.
+/// variables fall by as many and rise by `by`. Scopes before and after are asked for in which this is shaped;
+/// in any such scopes the result is shaped as the term is.
 pub fn put(
     alloc: Global,
     shapes: &[Shape],
@@ -47,7 +48,8 @@ pub fn put(
     term: &Term,
 ) -> Result<Term, NoMemory>
     requires { Puts (spine_of sub.now) (simple_types_of shapes.now) by 0 (TermShaped (term_of term.now)) }
-    ensures { IfOk result (λ r. Substituted (putting (spine_of sub.now) by 0) (term_of term.now) (term_of r)) }
+    ensures result { IfOk result (λ r. Substituted (putting (spine_of sub.now) by 0) (term_of term.now) (term_of r)) }
+    ensures shaped { IfOk result (λ r. TermStaysShaped (spine_of sub.now) (simple_types_of shapes.now) by 0 (term_of term.now) (term_of r)) }
 {
     put_in(alloc, shapes, sub, by, 0, term)
 }
@@ -61,7 +63,8 @@ pub fn put_all(
     terms: &Terms,
 ) -> Result<Terms, NoMemory>
     requires { Puts (spine_of sub.now) (simple_types_of shapes.now) by 0 (ArgsShaped terms.now) }
-    ensures { IfOk result (λ r. SubstitutedSpine (putting (spine_of sub.now) by 0) terms.now r) }
+    ensures result { IfOk result (λ r. SubstitutedSpine (putting (spine_of sub.now) by 0) terms.now r) }
+    ensures shaped { IfOk result (λ r. ArgsStayShaped (spine_of sub.now) (simple_types_of shapes.now) by 0 terms.now r) }
 {
     put_in_all(alloc, shapes, sub, by, 0, terms)
 }
@@ -75,7 +78,8 @@ pub fn put_type(
     ty: &Ty,
 ) -> Result<Ty, NoMemory>
     requires { Puts (spine_of sub.now) (simple_types_of shapes.now) by 0 (TypeShaped (type_of ty.now)) }
-    ensures { IfOk result (λ r. SubstitutedType (putting (spine_of sub.now) by 0) (type_of ty.now) (type_of r)) }
+    ensures result { IfOk result (λ r. SubstitutedType (putting (spine_of sub.now) by 0) (type_of ty.now) (type_of r)) }
+    ensures shaped { IfOk result (λ r. TypeStaysShaped (spine_of sub.now) (simple_types_of shapes.now) by 0 (type_of ty.now) (type_of r)) }
 {
     put_in_type(alloc, shapes, sub, by, 0, ty)
 }

@@ -23,5 +23,5 @@ returns c =
     let ts = spine_of c.args.terms.items in
     IfOk-weaker c.abstracted.result _ _
     (λ term is. is ∙ expanded_some (head_of c.args.head) (head_of c.in_ok-raised.field-0) ts c.in_ok-args.args c.in_ok-seen.seen c.in_ok-own.own made.binders made.family made.args c.in_ok-shapes.shapes c.len-count.result
-    c.len-count.ensures (seen_spine c.len-count.result ts c.in_ok-terms.terms c.in_ok-seen.seen c.in_ok-terms.ensures c.in_ok-seen.ensures) c.in_ok-shapes.ensures c.in_ok-own.ensures c.in_ok-args.ensures c.in_ok-raised.ensures)
+    c.len-count.ensures (seen_spine c.len-count.result ts c.in_ok-terms.terms c.in_ok-seen.seen c.in_ok-terms.ensures c.in_ok-seen.ensures.result) c.in_ok-shapes.ensures c.in_ok-own.ensures c.in_ok-args.ensures c.in_ok-raised.ensures)
     c.abstracted.ensures

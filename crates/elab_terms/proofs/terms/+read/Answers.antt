@@ -328,7 +328,7 @@ read_arguments-read_term-requires t c =
     let wanted = type_of c.in_ok-ty-in-Ok.ty in
     let shapes = shapes_of_read ss types a.shapes.now a.binders.now c.as_slice-shapes.ensures c.as_slice-types.ensures c.requires.shapes in
     let typed = typed_before (text_in a.source.now) a.sig.now a.names.now Γ (arguments_of (tree_of a.tree.now) []) a.raise c.loop-i.i types a.binders.now terms c.requires.known.founded c.as_slice-types.ensures c.requires.domains.seen i.count i.read in
-    let result = subst (λ xs. SubstitutedType (putting (spine_of xs) a.raise 0) (type_of ty) wanted) (c.as_slice.ensures.value ∙ sym (take_all c.loop-i.i terms (omega (arith, i.count)))) c.in_ok-ty-in-Ok.ensures in (
+    let result = subst (λ xs. SubstitutedType (putting (spine_of xs) a.raise 0) (type_of ty) wanted) (c.as_slice.ensures.value ∙ sym (take_all c.loop-i.i terms (omega (arith, i.count)))) c.in_ok-ty-in-Ok.ensures.result in (
       omega (arith, c.decreases, argument_size (tree_of a.tree.now) c.loop-i.i (tree_of c.in-Ok.found.now) c.in-Ok.ensures),
       (
         c.requires.cut,
@@ -355,7 +355,7 @@ read_arguments-returns-in-Err-read_term-clause-refused t c =
     let wanted = type_of c.in_ok-ty-in-Ok.ty in
     let tree = tree_of c.in-Ok.found.now in
     let arguments = arguments_of (tree_of a.tree.now) [] in
-    let result = subst (λ xs. SubstitutedType (putting (spine_of xs) a.raise 0) (type_of ty) wanted) c.as_slice.ensures.value c.in_ok-ty-in-Ok.ensures in
+    let result = subst (λ xs. SubstitutedType (putting (spine_of xs) a.raise 0) (type_of ty) wanted) c.as_slice.ensures.value c.in_ok-ty-in-Ok.ensures.result in
     IsRefusal-map (RefusesTerm text a.sig.now c.loop-i.names Γ tree wanted) (RefusesArguments text a.sig.now a.names.now Γ stays arguments (rename_context (next_by a.raise) a.binders.now))
     (λ fault p. argument_refused text a.sig.now a.names.now Γ arguments a.raise c.loop-i.i types terms tree ty wanted c.loop-i-test.true c.index-types-i.is c.in-Ok.ensures i.count result i.read a.binders.now c.as_slice-types.ensures fault
     (subst (λ b. RefusesTerm text a.sig.now b Γ tree wanted fault) i.names p))
@@ -374,7 +374,7 @@ read_arguments-loop-i-preserved t c =
     let tree = tree_of c.in-Ok.found.now in
     let term = c.in-Ok-read_term.term in
     let arguments = arguments_of (tree_of a.tree.now) [] in
-    let result = subst (λ xs. SubstitutedType (putting (spine_of xs) a.raise 0) (type_of ty) wanted) c.as_slice.ensures.value c.in_ok-ty-in-Ok.ensures in
+    let result = subst (λ xs. SubstitutedType (putting (spine_of xs) a.raise 0) (type_of ty) wanted) c.as_slice.ensures.value c.in_ok-ty-in-Ok.ensures.result in
     let pushed = c.in_ok-push-in-Ok-read_term.ensures.items in record {
       count = ap length pushed ∙ length-append terms (term ∷ []) ∙ ap (λ n. n + 1) i.count;
       within = omega (arith, slice_get_within arguments c.loop-i.i tree c.in-Ok.ensures);

@@ -66,7 +66,7 @@ read_term-requires c =
     let wanted = type_of c.in_ok-ty.ty in
     let shapes = shapes_of_read ss types a.shapes.now a.binders.now c.as_slice-shapes.ensures c.as_slice-types.ensures c.requires.shapes in
     let typed = typed_before (text_in a.source.now) a.sig.now a.names.now Γ (trees_of a.items.now) 0 c.loop-i.i types a.binders.now terms c.requires.known.founded c.as_slice-types.ensures c.requires.domains.seen i.count i.read in
-    let result = subst (λ xs. SubstitutedType (putting (spine_of xs) 0 0) (type_of ty) wanted) (c.as_slice.ensures.value ∙ sym (take_all c.loop-i.i terms (omega (arith, i.count)))) c.in_ok-ty.ensures in record {
+    let result = subst (λ xs. SubstitutedType (putting (spine_of xs) 0 0) (type_of ty) wanted) (c.as_slice.ensures.value ∙ sym (take_all c.loop-i.i terms (omega (arith, i.count)))) c.in_ok-ty.ensures.result in record {
       cut = c.requires.cut;
       closed = c.requires.closed;
       known = subst (KnownAt a.sig.now Γ) (sym i.names) c.requires.known;
@@ -89,7 +89,7 @@ returns-in-Err-clause-refused c =
     let arguments = trees_of a.items.now in
     let count : length a.binders.now ≡ length types = ap length (sym c.as_slice-types.ensures) ∙ length-types_of types in
     let there = slice_get-trees_of a.items.now c.loop-i.i item (omega (arith, c.requires.count, count, c.loop-i-test.true)) c.index-items-i.is in
-    let result = subst (λ xs. SubstitutedType (putting (spine_of xs) 0 0) (type_of ty) wanted) c.as_slice.ensures.value c.in_ok-ty.ensures in
+    let result = subst (λ xs. SubstitutedType (putting (spine_of xs) 0 0) (type_of ty) wanted) c.as_slice.ensures.value c.in_ok-ty.ensures.result in
     IsRefusal-map (RefusesTerm text a.sig.now c.loop-i.names Γ tree wanted) (RefusesArguments text a.sig.now a.names.now Γ stays arguments a.binders.now)
     (λ fault p. subst (λ ds. RefusesArguments text a.sig.now a.names.now Γ stays arguments ds fault) (not_raised a.binders.now)
     (argument_refused text a.sig.now a.names.now Γ arguments 0 c.loop-i.i types terms tree ty wanted c.loop-i-test.true c.index-types-i.is there i.count result i.read a.binders.now c.as_slice-types.ensures fault
@@ -112,7 +112,7 @@ loop-i-preserved c =
     let arguments = trees_of a.items.now in
     let count : length a.binders.now ≡ length types = ap length (sym c.as_slice-types.ensures) ∙ length-types_of types in
     let there = slice_get-trees_of a.items.now c.loop-i.i item (omega (arith, c.requires.count, count, c.loop-i-test.true)) c.index-items-i.is in
-    let result = subst (λ xs. SubstitutedType (putting (spine_of xs) 0 0) (type_of ty) wanted) c.as_slice.ensures.value c.in_ok-ty.ensures in
+    let result = subst (λ xs. SubstitutedType (putting (spine_of xs) 0 0) (type_of ty) wanted) c.as_slice.ensures.value c.in_ok-ty.ensures.result in
     let pushed = c.in_ok-push-in-Ok.ensures.items in record {
       count = ap length pushed ∙ length-append terms (term ∷ []) ∙ ap (λ n. n + 1) i.count;
       read = argument_read text a.sig.now a.names.now Γ arguments 0 c.loop-i.i types terms tree ty wanted c.loop-i-test.true c.index-types-i.is there i.count result i.read term c.push.new.self.items pushed

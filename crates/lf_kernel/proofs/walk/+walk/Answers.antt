@@ -59,7 +59,7 @@ walk_args-walk_term-requires t c =
       (
         c.requires.typing,
         binder_expected (kind_shapes_in a.sig.now) Γ a.raise terms types c.as_slice-shapes.result.now c.loop-i.i c.index-types-i.result (type_of c.in_ok-ty.ty) (omega (arith, c.loop-i-test.true)) c.index-types-i.is shapes
-            (subst (ShapedContext (kind_shapes_in a.sig.now) (binders_scope Γ a.raise)) (sym c.as_slice-types.ensures) c.requires.shaped) c.loop-i.invariant c.in_ok-ty.ensures,
+            (subst (ShapedContext (kind_shapes_in a.sig.now) (binders_scope Γ a.raise)) (sym c.as_slice-types.ensures) c.requires.shaped) c.loop-i.invariant c.in_ok-ty.ensures.result,
       ),
     )
 
@@ -76,7 +76,7 @@ walk_args-returns-in-Some t c =
     subst (FailsSpine Γ stays a.args.now (rename_context (next_by a.raise) a.binders.now) a.first) (sym (reverse-step c.in-Some.path c.in_ok-step-in-Some.field-0 (a.first + c.loop-i.i) c.in_ok-step-in-Some.ensures))
     (subst₂ (λ ts bs. FailsSpine Γ stays ts (rename_context (next_by a.raise) bs) a.first ((a.first + c.loop-i.i) ∷ reverse c.in-Some.path)) c.as_slice-terms.ensures c.as_slice-types.ensures
     (argument_fails Γ (next_by a.raise) terms types c.loop-i.i x c.index-types-i.result ty a.first (reverse c.in-Some.path) c.loop-i-test.true lengths c.index-terms-i.is c.index-types-i.is c.loop-i.invariant
-    c.in_ok-ty.ensures fails))
+    c.in_ok-ty.ensures.result fails))
 
 pub walk_args-loop-i-preserved : goal.walk_args-loop-i-preserved
 walk_args-loop-i-preserved t c =
@@ -88,7 +88,7 @@ walk_args-loop-i-preserved t c =
     let ty = type_of c.in_ok-ty.ty in
     let lengths = terms_and_types terms types a.args.now a.binders.now c.as_slice-terms.ensures c.as_slice-types.ensures c.requires.count in
     typed_more Γ (next_by a.raise) terms types c.loop-i.i x c.index-types-i.result ty c.loop-i-test.true lengths c.index-terms-i.is c.index-types-i.is c.loop-i.invariant
-    c.in_ok-ty.ensures (well (Typed Γ (term_of x) ty) (FailsTerm Γ (term_of x) ty) c.in_ok-walk_term.field-0 c.in-None.is c.in_ok-walk_term.ensures)
+    c.in_ok-ty.ensures.result (well (Typed Γ (term_of x) ty) (FailsTerm Γ (term_of x) ty) c.in_ok-walk_term.field-0 c.in-None.is c.in_ok-walk_term.ensures)
 
 pub walk_args-returns : goal.walk_args-returns
 walk_args-returns t c =
