@@ -5,7 +5,7 @@ pub mod Expansions
 pub mod Walks
 pub mod Putting
 pub mod Abstractions
-pub mod Scopes
+pub mod LocalShapes
 pub mod SignatureEntries
 pub mod PuttingTypes
 pub mod Mentions

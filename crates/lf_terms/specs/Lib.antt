@@ -6,7 +6,7 @@ pub mod Types
 pub mod TypeSizes
 pub mod Targets
 pub mod Putting
-pub mod Scopes
+pub mod LocalShapes
 pub mod Finding
 pub mod Entries
 pub mod Mentions

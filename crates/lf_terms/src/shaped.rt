@@ -3,7 +3,7 @@
 ghost use Rattle.std.specs.Prelude.{◌≡◌, ◌↔◌, IsTrue, MatchOption, option_map};
 ghost use Rattle.lf_definitions.specs.Syntax.{bound, arrows, base, lams};
 ghost use Rattle.lf_definitions.specs.Shaping.{Shaped, ShapedSpine, under_all, shapes_in, globals, shape_at, shape_of_metavariable};
-ghost use Rattle.lf_terms.specs.Scopes.{scope_under, no_globals};
+ghost use Rattle.lf_terms.specs.LocalShapes.{scope_under, no_globals};
 ghost use Rattle.lf_terms.specs.Putting.{HasLams};
 ghost use Rattle.lf_terms.specs.Shapes.{simple_type_of};
 ghost use Rattle.lf_terms.specs.Terms.{head_of, term_of};
@@ -14,16 +14,16 @@ use crate::term::{Term, Terms};
 
 // The variables of a context, and of the abstractions above a place in a term, those of one prefix together.
 #[derive(Clone, Copy)]
-enum Scope<'a> {
+enum LocalShapes<'a> {
     Context(&'a Shapes),
-    Under(&'a Shapes, &'a Scope<'a>),
+    Under(&'a Shapes, &'a LocalShapes<'a>),
 }
 
 /// Whether a term is eta-long of a shape. It takes no memory.
 pub fn shaped(sig: &Shapes, metas: &MetaShapes, ctx: &Shapes, term: &Term, shape: &Shape) -> bool
     ensures { IsTrue result ↔ Shaped (shapes_in sig.now metas.now ctx.now) (term_of term.now) (simple_type_of shape.now) }
 {
-    shaped_in(sig, metas, &Scope::Context(ctx), term, &shape.args)
+    shaped_in(sig, metas, &LocalShapes::Context(ctx), term, &shape.args)
 }
 
 // Whether a term is of the shape with these arguments.
@@ -31,7 +31,7 @@ pub fn shaped(sig: &Shapes, metas: &MetaShapes, ctx: &Shapes, term: &Term, shape
 fn shaped_in<'a>(
     sig: &'a Shapes,
     metas: &'a MetaShapes,
-    scope: &'a Scope<'a>,
+    scope: &'a LocalShapes<'a>,
     term: &'a Term,
     shapes: &'a Shapes,
 ) -> bool
@@ -39,7 +39,7 @@ fn shaped_in<'a>(
 {
     match body_under(term, shapes.len()) {
         None => false,
-        Some(body) => shaped_at(sig, metas, &Scope::Under(shapes, scope), body),
+        Some(body) => shaped_at(sig, metas, &LocalShapes::Under(shapes, scope), body),
     }
 }
 
@@ -48,7 +48,7 @@ fn shaped_in<'a>(
 fn shaped_at<'a>(
     sig: &'a Shapes,
     metas: &'a MetaShapes,
-    scope: &'a Scope<'a>,
+    scope: &'a LocalShapes<'a>,
     body: &'a Term,
 ) -> bool
     ensures { IsTrue result ↔ Shaped (scope_under (globals sig.now metas.now) scope.now) (term_of body.now) base }
@@ -67,7 +67,7 @@ fn shaped_at<'a>(
 fn shaped_args<'a>(
     sig: &'a Shapes,
     metas: &'a MetaShapes,
-    scope: &'a Scope<'a>,
+    scope: &'a LocalShapes<'a>,
     args: &'a Terms,
     shapes: &'a Shapes,
 ) -> bool
@@ -90,7 +90,7 @@ fn shaped_args<'a>(
 fn shape_of_head<'a>(
     sig: &'a Shapes,
     metas: &'a MetaShapes,
-    scope: &'a Scope<'a>,
+    scope: &'a LocalShapes<'a>,
     head: Head,
 ) -> Option<&'a Shapes>
     ensures { option_map (λ shapes. arrows shapes.now base) result ≡ scope_under (globals sig.now metas.now) scope.now (head_of head) }
@@ -103,12 +103,12 @@ fn shape_of_head<'a>(
 }
 
 // The shape of a variable. It goes from prefix to prefix.
-fn shape_of_variable<'a>(scope: &'a Scope<'a>, number: usize) -> Option<&'a Shapes>
+fn shape_of_variable<'a>(scope: &'a LocalShapes<'a>, number: usize) -> Option<&'a Shapes>
     ensures { option_map (λ shapes. arrows shapes.now base) result ≡ scope_under no_globals scope.now (bound number) }
 {
     match scope {
-        Scope::Context(ctx) => newest(ctx, number),
-        Scope::Under(shapes, outside) => {
+        LocalShapes::Context(ctx) => newest(ctx, number),
+        LocalShapes::Under(shapes, outside) => {
             let count = shapes.len();
             if number < count {
                 newest(shapes, number)

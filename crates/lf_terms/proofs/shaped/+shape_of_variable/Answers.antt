@@ -1,7 +1,7 @@
 use Rattle.std.proofs.Common.{arith, sym, ap, ◌∙◌, ◌-◌}
 use Rattle.lf_definitions.specs.Syntax.{bound}
-use Rattle.lf_terms.specs.Scopes.{scope_under, no_globals}
-use Rattle.lf_terms.proofs.Scopes.{prefix_inside, under_all-outside}
+use Rattle.lf_terms.specs.LocalShapes.{scope_under, no_globals}
+use Rattle.lf_terms.proofs.LocalShapes.{prefix_inside, under_all-outside}
 use Rattle.lf_terms.proofs.shaped.+shape_of_variable.Goals as goal
 
 pub returns-then-number-count : goal.returns-then-number-count

@@ -3,11 +3,11 @@ use Rattle.lf_definitions.specs.Syntax.{lams, arrows, base, term_size, spine_siz
 use Rattle.lf_definitions.specs.Shaping.{Shaped, ShapedSpine, globals}
 use Rattle.lf_terms.specs.Terms.{head_of, term_of, spine_of}
 use Rattle.lf_terms.specs.Shapes.{simple_type_of, simple_types_of}
-use Rattle.lf_terms.specs.Scopes.{scope_under}
+use Rattle.lf_terms.specs.LocalShapes.{scope_under}
 use Rattle.lf_terms.specs.Putting.{HasLams}
 use Rattle.lf_terms.proofs.Spines.{item_size}
 use Rattle.lf_terms.proofs.Abstractions.{term_size-lams}
-use Rattle.lf_terms.proofs.Scopes.{lengths_differ, rest_more, rest_refused, rest_end, known_head, body_found, body_missing}
+use Rattle.lf_terms.proofs.LocalShapes.{lengths_differ, rest_more, rest_refused, rest_end, known_head, body_found, body_missing}
 use Rattle.lf_terms.proofs.shaped.+shaped.Goals as goal
 
 falsely : {A : Type 0} → IsTrue false → A

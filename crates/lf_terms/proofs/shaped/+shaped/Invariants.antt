@@ -1,10 +1,10 @@
 use Rattle.std.proofs.Common.{◌↔◌, ◌+◌, ◌*◌}
 use Rattle.lf_definitions.specs.Syntax.{arrows, base, term_size, spine_size}
 use Rattle.lf_definitions.specs.Shaping.{ShapedSpine, globals}
-use Rattle.lf_terms.specs.Scopes.{scope_under}
+use Rattle.lf_terms.specs.LocalShapes.{scope_under}
 use Rattle.lf_terms.specs.Terms.{term_of, spine_of}
 use Rattle.lf_terms.specs.Shapes.{simple_types_of}
-use Rattle.lf_terms.proofs.Scopes.{RestShaped}
+use Rattle.lf_terms.proofs.LocalShapes.{RestShaped}
 use Rattle.lf_terms.proofs.shaped.+shaped.Given as goal
 
 abbrev pub decreases-shaped_args : goal.decreases-shaped_args

@@ -1,4 +1,4 @@
-use Rattle.lf_terms.proofs.Scopes.{shape_at_get, shape_at_past}
+use Rattle.lf_terms.proofs.LocalShapes.{shape_at_get, shape_at_past}
 use Rattle.lf_terms.proofs.shaped.entry.Goals as goal
 
 pub returns-then-place-items : goal.returns-then-place-items

@@ -1,6 +1,6 @@
 use Rattle.std.proofs.Common.{arith, ap, length}
 use Rattle.lf_terms.proofs.ShapeLists.{length-simple_types_of}
-use Rattle.lf_terms.proofs.Scopes.{newest_at, newest_past}
+use Rattle.lf_terms.proofs.LocalShapes.{newest_at, newest_past}
 use Rattle.lf_terms.proofs.shaped.newest.Goals as goal
 
 pub returns-then-number-count : goal.returns-then-number-count

@@ -1,8 +1,8 @@
 use Rattle.std.proofs.Common.{sym, ap, ◌∙◌}
 use Rattle.lf_definitions.specs.Shaping.{globals}
 use Rattle.lf_terms.specs.Terms.{head_of}
-use Rattle.lf_terms.specs.Scopes.{scope_under}
-use Rattle.lf_terms.proofs.Scopes.{scope_variable, scope_constant, scope_metavariable}
+use Rattle.lf_terms.specs.LocalShapes.{scope_under}
+use Rattle.lf_terms.proofs.LocalShapes.{scope_variable, scope_constant, scope_metavariable}
 use Rattle.lf_terms.proofs.shaped.shape_of_head.Goals as goal
 
 pub returns-in-Bound : goal.returns-in-Bound
