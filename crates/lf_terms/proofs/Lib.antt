@@ -9,3 +9,4 @@ pub mod LocalShapes
 pub mod SignatureEntries
 pub mod PuttingTypes
 pub mod Mentions
+pub mod Extents

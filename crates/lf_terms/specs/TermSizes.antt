@@ -3,6 +3,7 @@ use Rattle.std.specs.Prelude.{◌≤◌, List, [], ◌∷◌}
 use Rattle.std.proofs.Common.{arith}
 use denote.Param.Weighed.{most}
 use Rattle.lf_definitions.specs.Syntax.{term_size, spine_size}
+use Rattle.lf_terms.specs.declared.extent.Extent.{Extent}
 use Rattle.lf_terms.specs.declared.term.Term.{Term}
 use Rattle.lf_terms.specs.declared.term.Term.TheVariants.{Lam, At}
 use Rattle.lf_terms.specs.declared.term.Kept.{Kept}
@@ -23,11 +24,11 @@ items_fall (t ∷ ts) = omega (arith, part_falls t, items_fall ts)
 pub body_falls : (a : body.Inside) → deep-Body a ≤ term_size (term_of a.inner.value)
 body_falls a = omega (arith, part_falls a.inner.value)
 
-kept_fall : (o : Kept) → deep-Terms (record { items = o }) ≤ spine_size (kept_spine o)
-kept_fall Empty = omega arith
-kept_fall (One a) = omega (arith, items_fall a.value)
-kept_fall (Two a) = omega (arith, items_fall a.value)
-kept_fall (More a) = omega (arith, items_fall a.value.items)
+kept_fall : (o : Kept) (e : Extent) → deep-Terms (record { items = o; extent = e }) ≤ spine_size (kept_spine o)
+kept_fall Empty e = omega arith
+kept_fall (One a) e = omega (arith, items_fall a.value)
+kept_fall (Two a) e = omega (arith, items_fall a.value)
+kept_fall (More a) e = omega (arith, items_fall a.value.items)
 
 pub terms_fall : (a : terms.Inside) → deep-Terms a ≤ spine_size (kept_spine a.items)
-terms_fall a = kept_fall a.items
+terms_fall a = kept_fall a.items a.extent

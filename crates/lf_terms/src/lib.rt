@@ -6,6 +6,7 @@
 #![tactic(auto)]
 
 pub mod eta;
+mod extent;
 pub mod found;
 pub mod goal;
 pub mod head;

@@ -84,7 +84,7 @@ pub fn put_type(
     put_in_type(alloc, shapes, sub, by, 0, ty)
 }
 
-// Each binder of a type stands under those before it.
+// Each binder of a type stands under those before it. A type that mentions none of these variables is shared.
 fn put_in_type(
     alloc: Global,
     shapes: &[Shape],
@@ -96,6 +96,9 @@ fn put_in_type(
     requires { Puts (spine_of sub.now) (simple_types_of shapes.now) by depth (TypeShaped (type_of ty.now)) }
     ensures { IfOk result (λ r. SubstitutedType (putting (spine_of sub.now) by depth) (type_of ty.now) (type_of r)) }
 {
+    if ty.is_within(depth) {
+        return ty.copy();
+    }
     let items = ty.binders.as_slice();
     let count = items.len();
     if count > (u32::MAX - depth) as usize {
@@ -116,6 +119,7 @@ fn put_in_type(
 }
 
 // Puts `sub` for the variables just outside `depth` local binders. The variables outside those rise by `by`.
+// A part that mentions none of all these is shared, in one step.
 #[cycle(subst)]
 fn put_in(
     alloc: Global,
@@ -132,6 +136,9 @@ fn put_in(
         Term::Lam(body) => {
             if depth == u32::MAX {
                 return Err(NoMemory);
+            }
+            if body.is_within(depth + 1) {
+                return Ok(Term::Lam(body.copy()?));
             }
             let body = put_in(alloc, shapes, sub, by, depth + 1, body.term())?;
             Ok(Term::Lam(Body::new(alloc, body)?))
@@ -159,6 +166,9 @@ fn put_in_all(
     requires { Puts (spine_of sub.now) (simple_types_of shapes.now) by depth (ArgsShaped terms.now) }
     ensures { IfOk result (λ r. SubstitutedSpine (putting (spine_of sub.now) by depth) terms.now r) }
 {
+    if terms.is_within(depth) {
+        return terms.copy();
+    }
     let items = terms.as_slice();
     let mut results = Vec::with_capacity(alloc, items.len())?;
     for i in 0..items.len() {

@@ -1,9 +1,11 @@
 //! Terms.
 
-ghost use Rattle.std.specs.Prelude.{◌≡◌, IfOk};
+ghost use Rattle.std.specs.Prelude.{◌≡◌, IfOk, IsTrue, false};
 ghost use Rattle.lf_definitions.specs.Syntax.{no_args, args_count};
-ghost use Rattle.lf_terms.specs.Terms.{term_of, spine_of};
+ghost use Rattle.lf_terms.specs.Extents.{Covers, IsWithin, HasNoMetavariable, InTerm, InSpine};
+ghost use Rattle.lf_terms.specs.Terms.{term_of, spine_of, kept_spine};
 
+use crate::extent::Extent;
 use crate::head::Head;
 use basics::NoMemory;
 use std::alloc::Global;
@@ -24,6 +26,7 @@ pub enum Term {
 #[derive(Drop)]
 pub struct Body {
     inner: Arc<Term>,
+    extent: Extent,
 }
 
 impl Model for Body {
@@ -38,6 +41,10 @@ impl Model for Body {
 
     ghost view = { λ a. term_of a.inner.value };
 
+    ghost use Rattle.lf_terms.specs.Extents.{Covers, InTerm};
+
+    ghost invariant = { λ a. Covers a.extent (InTerm (term_of a.inner.value)) };
+
     ghost size = { term_size };
 
     ghost use Rattle.lf_terms.specs.TermSizes.{body_falls};
@@ -50,6 +57,7 @@ impl Model for Body {
 #[derive(Drop)]
 pub struct Terms {
     items: Kept,
+    extent: Extent,
 }
 
 // A list of one or two stands in the block that copies share: fewer steps to its terms, and one block less.
@@ -74,6 +82,10 @@ impl Model for Terms {
 
     ghost view = { λ a. kept_spine a.items };
 
+    ghost use Rattle.lf_terms.specs.Extents.{Covers, InSpine};
+
+    ghost invariant = { λ a. Covers a.extent (InSpine (kept_spine a.items)) };
+
     ghost size = { spine_size };
 
     ghost use Rattle.lf_terms.specs.TermSizes.{terms_fall};
@@ -81,13 +93,33 @@ impl Model for Terms {
     ghost size_decreases = { λ a h. terms_fall a };
 }
 
+impl Term {
+    // What is kept of the heads that occur in it.
+    pub(crate) fn extent(&self) -> Extent
+        ensures { Covers result (InTerm (term_of self.now)) }
+    {
+        match self {
+            Term::Lam(body) => body.extent().outside(1),
+            Term::At(head, args) => Extent::of_head(*head).joined(args.extent()),
+        }
+    }
+
+    /// Whether a metavariable may occur, in one step.
+    pub fn has_metas(&self) -> bool
+        ensures { result ≡ false → HasNoMetavariable (InTerm (term_of self.now)) }
+    {
+        self.extent().has_metas()
+    }
+}
+
 impl Body {
     /// The body of an abstraction.
     pub fn new(alloc: Global, term: Term) -> Result<Body, NoMemory>
         ensures { IfOk result (λ body. body ≡ term_of term) }
     {
+        let extent = term.extent();
         let inner = Arc::new(alloc, term)?;
-        Ok(Body { inner })
+        Ok(Body { inner, extent })
     }
 
     /// The term that the body is. It takes no memory.
@@ -102,7 +134,24 @@ impl Body {
         ensures { IfOk result (λ body. body ≡ self.now) }
     {
         let inner = Arc::try_clone(&self.inner)?;
-        Ok(Body { inner })
+        Ok(Body {
+            inner,
+            extent: self.extent,
+        })
+    }
+
+    // What is kept of the heads that occur in it.
+    pub(crate) fn extent(&self) -> Extent
+        ensures { Covers result (InTerm self.now) }
+    {
+        self.extent
+    }
+
+    /// Whether no variable can occur that is outside so many binders, in one step.
+    pub fn is_within(&self, depth: u32) -> bool
+        ensures { IsTrue result → IsWithin depth (InTerm self.now) }
+    {
+        self.extent().is_within(depth)
     }
 }
 
@@ -111,32 +160,19 @@ impl Terms {
     pub fn new() -> Terms
         ensures { result ≡ no_args }
     {
-        Terms { items: Kept::Empty }
+        Terms {
+            items: Kept::Empty,
+            extent: Extent::new(),
+        }
     }
 
     /// The terms of a vector.
-    pub fn from_vec(alloc: Global, mut items: Vec<Term>) -> Result<Terms, NoMemory>
+    pub fn from_vec(alloc: Global, items: Vec<Term>) -> Result<Terms, NoMemory>
         ensures { IfOk result (λ terms. terms ≡ spine_of items.items) }
     {
-        if items.len() > 2 {
-            let block = Arc::new(alloc, items)?;
-            return Ok(Terms {
-                items: Kept::More(block),
-            });
-        }
-        let Some(last) = items.pop() else {
-            return Ok(Terms { items: Kept::Empty });
-        };
-        let Some(first) = items.pop() else {
-            let block = Arc::new(alloc, [last])?;
-            return Ok(Terms {
-                items: Kept::One(block),
-            });
-        };
-        let block = Arc::new(alloc, [first, last])?;
-        Ok(Terms {
-            items: Kept::Two(block),
-        })
+        let extent = extent_of(items.as_slice());
+        let items = block_of(alloc, items)?;
+        Ok(Terms { items, extent })
     }
 
     /// The terms as a slice. It takes no memory.
@@ -162,13 +198,71 @@ impl Terms {
     pub fn copy(&self) -> Result<Terms, NoMemory>
         ensures { IfOk result (λ terms. terms ≡ self.now) }
     {
-        let items = match &self.items {
-            Kept::Empty => Kept::Empty,
-            Kept::One(block) => Kept::One(Arc::try_clone(block)?),
-            Kept::Two(block) => Kept::Two(Arc::try_clone(block)?),
-            Kept::More(block) => Kept::More(Arc::try_clone(block)?),
-        };
-        Ok(Terms { items })
+        let items = copied(&self.items)?;
+        Ok(Terms {
+            items,
+            extent: self.extent,
+        })
+    }
+
+    // What is kept of the heads that occur in them.
+    pub(crate) fn extent(&self) -> Extent
+        ensures { Covers result (InSpine self.now) }
+    {
+        self.extent
+    }
+
+    /// Whether no variable can occur that is outside so many binders, in one step.
+    pub fn is_within(&self, depth: u32) -> bool
+        ensures { IsTrue result → IsWithin depth (InSpine self.now) }
+    {
+        self.extent().is_within(depth)
+    }
+
+    /// Whether a metavariable may occur, in one step.
+    pub fn has_metas(&self) -> bool
+        ensures { result ≡ false → HasNoMetavariable (InSpine self.now) }
+    {
+        self.extent().has_metas()
+    }
+}
+
+// What is kept of the heads that occur in terms.
+fn extent_of(terms: &[Term]) -> Extent
+    ensures { Covers result (InSpine (spine_of terms.now)) }
+{
+    let mut extent = Extent::new();
+    for term in terms {
+        extent = extent.joined(term.extent());
+    }
+    extent
+}
+
+// The block of terms.
+fn block_of(alloc: Global, mut items: Vec<Term>) -> Result<Kept, NoMemory>
+    ensures { IfOk result (λ block. kept_spine block ≡ spine_of items.items) }
+{
+    if items.len() > 2 {
+        return Ok(Kept::More(Arc::new(alloc, items)?));
+    }
+    let Some(last) = items.pop() else {
+        return Ok(Kept::Empty);
+    };
+    let Some(first) = items.pop() else {
+        return Ok(Kept::One(Arc::new(alloc, [last])?));
+    };
+    Ok(Kept::Two(Arc::new(alloc, [first, last])?))
+}
+
+// The same block.
+fn copied(items: &Kept) -> Result<Kept, NoMemory>
+    ensures { IfOk result (λ copy. kept_spine copy ≡ kept_spine items.now) }
+{
+    match items {
+        Kept::Empty => Ok(Kept::Empty),
+        Kept::One(block) => Ok(Kept::One(Arc::try_clone(block)?)),
+        Kept::Two(block) => Ok(Kept::Two(Arc::try_clone(block)?)),
+        Kept::More(block) => Ok(Kept::More(Arc::try_clone(block)?)),
     }
 }
 

@@ -1,9 +1,11 @@
 //! Types and kinds.
 
-ghost use Rattle.std.specs.Prelude.{◌≡◌, IfOk, [], length};
+ghost use Rattle.std.specs.Prelude.{◌≡◌, IfOk, IsTrue, false, [], length};
+ghost use Rattle.lf_terms.specs.Extents.{Covers, IsWithin, HasNoMetavariable, InType, InContext};
 ghost use Rattle.lf_terms.specs.Types.{type_of, types_of, atom_of};
 
 use basics::NoMemory;
+use crate::extent::Extent;
 use crate::term::Terms;
 use std::alloc::Global;
 use std::marker::Model;
@@ -23,6 +25,7 @@ pub struct Ty {
 #[derive(Drop)]
 pub struct Tys {
     items: Option<Arc<Vec<Ty>>>,
+    extent: Extent,
 }
 
 /// A context: the types of its variables, oldest first.
@@ -40,6 +43,10 @@ impl Model for Tys {
     ghost use Rattle.lf_terms.specs.Types.{kept_types};
 
     ghost view = { λ a. kept_types a.items };
+
+    ghost use Rattle.lf_terms.specs.Extents.{Covers, InContext};
+
+    ghost invariant = { λ a. Covers a.extent (InContext (kept_types a.items)) };
 
     ghost size = { types_size };
 
@@ -74,6 +81,28 @@ impl Ty {
             args,
         })
     }
+
+    // What is kept of the heads that occur in it.
+    pub(crate) fn extent(&self) -> Extent
+        ensures { Covers result (InType (type_of self.now)) }
+    {
+        let args = self.args.extent().outside(self.binders.len());
+        self.binders.extent().joined(args)
+    }
+
+    /// Whether no variable can occur that is outside so many binders, in one step.
+    pub fn is_within(&self, depth: u32) -> bool
+        ensures { IsTrue result → IsWithin depth (InType (type_of self.now)) }
+    {
+        self.extent().is_within(depth)
+    }
+
+    /// Whether a metavariable may occur, in one step.
+    pub fn has_metas(&self) -> bool
+        ensures { result ≡ false → HasNoMetavariable (InType (type_of self.now)) }
+    {
+        self.extent().has_metas()
+    }
 }
 
 impl Kind {
@@ -104,7 +133,10 @@ impl Tys {
     pub fn new() -> Tys
         ensures { result ≡ [] }
     {
-        Tys { items: None }
+        Tys {
+            items: None,
+            extent: Extent::new(),
+        }
     }
 
     /// The types of a vector.
@@ -112,10 +144,14 @@ impl Tys {
         ensures { IfOk result (λ types. types ≡ types_of items.items) }
     {
         if items.is_empty() {
-            return Ok(Tys { items: None });
+            return Ok(Tys::new());
         }
+        let extent = extent_of(items.as_slice());
         let block = Arc::new(alloc, items)?;
-        Ok(Tys { items: Some(block) })
+        Ok(Tys {
+            items: Some(block),
+            extent,
+        })
     }
 
     /// The types as a slice. It takes no memory.
@@ -141,11 +177,39 @@ impl Tys {
         ensures { IfOk result (λ types. types ≡ self.now) }
     {
         match &self.items {
-            None => Ok(Tys { items: None }),
+            None => Ok(Tys::new()),
             Some(block) => {
                 let block = Arc::try_clone(block)?;
-                Ok(Tys { items: Some(block) })
+                Ok(Tys {
+                    items: Some(block),
+                    extent: self.extent,
+                })
             }
         }
     }
+
+    // What is kept of the heads that occur in them.
+    pub(crate) fn extent(&self) -> Extent
+        ensures { Covers result (InContext self.now) }
+    {
+        self.extent
+    }
+
+    /// Whether a metavariable may occur, in one step.
+    pub fn has_metas(&self) -> bool
+        ensures { result ≡ false → HasNoMetavariable (InContext self.now) }
+    {
+        self.extent().has_metas()
+    }
+}
+
+// What is kept of the heads that occur in types, each in the scope of those before it.
+fn extent_of(types: &[Ty]) -> Extent
+    ensures { Covers result (InContext (types_of types.now)) }
+{
+    let mut extent = Extent::new();
+    for i in 0..types.len() {
+        extent = extent.joined(types[i].extent().outside(i));
+    }
+    extent
 }

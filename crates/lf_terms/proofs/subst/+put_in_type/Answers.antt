@@ -1,5 +1,10 @@
-use Rattle.std.proofs.Common.{arith, ap}
+use Rattle.std.proofs.Common.{arith, sym, ap, subst}
+use Rattle.std.proofs.lemmas.Result.{IfOk-weaker}
 use Rattle.lf_definitions.specs.Syntax.{family, types_size}
+use Rattle.lf_definitions.specs.Substitution.{SubstitutedType}
+use Rattle.lf_terms.specs.Putting.{putting}
+use Rattle.lf_terms.specs.Types.{type_of}
+use Rattle.lf_terms.proofs.Extents.{type_unchanged}
 use Rattle.lf_terms.specs.Shapes.{simple_types_of}
 use Rattle.lf_terms.specs.Terms.{spine_of}
 use Rattle.lf_terms.specs.TypeSizes.{binders_size}
@@ -49,3 +54,11 @@ returns t c =
     let a = c.args in
     type_put (spine_of a.sub.now) a.by a.depth c.loop-i.i c.as_slice-items.result.now a.ty.now.binders _ _ a.ty.now.family a.ty.now.args c.in_ok-args.args (omega arith)
     c.as_slice-items.ensures c.in_ok-binders-2.ensures c.loop-i.invariant.done c.in_ok-args.ensures
+
+pub returns-then-is_within : goal.returns-then-is_within
+returns-then-is_within t c =
+    let a = c.args in
+    let σ = putting (spine_of a.sub.now) a.by a.depth in
+    IfOk-weaker c.copy.result _ _
+    (λ r same. subst (SubstitutedType σ (type_of a.ty.now)) (sym same) (type_unchanged (spine_of a.sub.now) a.by a.depth (type_of a.ty.now) (c.is_within.ensures c.if-is_within.true)))
+    c.copy.ensures

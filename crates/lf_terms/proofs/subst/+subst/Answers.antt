@@ -7,6 +7,8 @@ use Rattle.lf_terms.specs.Terms.{head_of, term_of, spine_of}
 use Rattle.lf_terms.specs.Shapes.{simple_types_of}
 use Rattle.lf_terms.proofs.Spines.{args_count-spine_of, arg_at-spine_of, take_more_spine, spine_of-append}
 use Rattle.lf_terms.proofs.Putting.{term_cost, put_under, puts_under, under_cost, puts_args, args_below, puts_arg, arg_below, put_arg, puts_head, head_below, put_head, put_constant, put_metavariable, put_local, put_greater, replaced_here, places_agree, replaced_lams, puts_nested, nested_cost, put_nested}
+use Rattle.lf_terms.specs.Extents.{IsWithin, InTerm}
+use Rattle.lf_terms.proofs.Extents.{term_unchanged, spine_unchanged}
 use Rattle.lf_terms.proofs.subst.+subst.Goals as goal
 
 pub put_at-returns-then-number-depth : goal.put_at-returns-then-number-depth
@@ -168,3 +170,18 @@ put_in_all-returns t c =
 pub put_in_all-loop-i-init : goal.put_in_all-loop-i-init
 put_in_all-loop-i-init t c =
     subst (λ l. SubstitutedSpine (putting (spine_of c.args.sub.now) c.args.by c.args.depth) no_args (spine_of l)) (sym c.in_ok-results.ensures.items) substituted_none
+
+pub put_in-returns-then-is_within : goal.put_in-returns-then-is_within
+put_in-returns-then-is_within t c =
+    let a = c.args in
+    let inside : IsWithin (a.depth + 1) (InTerm c.in-Lam.body) = c.is_within.ensures c.if-is_within.true in
+    subst₂ (Substituted (putting (spine_of a.sub.now) a.by a.depth)) (sym (ap term_of c.in-Lam.is)) (ap lam (sym c.in_ok-copy-in-Lam.ensures))
+    (put_under (spine_of a.sub.now) a.by a.depth _ _ (term_unchanged (spine_of a.sub.now) a.by (a.depth + 1) c.in-Lam.body inside))
+
+pub put_in_all-returns-then-is_within : goal.put_in_all-returns-then-is_within
+put_in_all-returns-then-is_within t c =
+    let a = c.args in
+    let σ = putting (spine_of a.sub.now) a.by a.depth in
+    IfOk-weaker c.copy.result _ _
+    (λ r same. subst (SubstitutedSpine σ a.terms.now) (sym same) (spine_unchanged (spine_of a.sub.now) a.by a.depth a.terms.now (c.is_within.ensures c.if-is_within.true)))
+    c.copy.ensures
