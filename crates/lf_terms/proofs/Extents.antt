@@ -1,19 +1,19 @@
 -- What is kept of the heads that occur, for what is put together of parts, and for what it spares.
-use Rattle.std.proofs.Common.{◌≡◌, ◌⊎◌, inl, inr, ℕ, zero, suc, ◌+◌, ◌<◌, ◌≤◌, List, [], ◌∷◌, ◌++◌, length, get_or, take, false, refl, sym, ap, ◌∙◌, subst, arith}
-use Rattle.lf_definitions.specs.Syntax.{LfHead, bound, constant, metavariable, LfTerm, lam, at, Spine, no_args, arg, joined, LfType, pi, family, pis, Context}
+use Rattle.std.proofs.Common.{◌≡◌, ◌⊎◌, inl, inr, ℕ, zero, suc, ◌+◌, ◌<◌, ◌≤◌, List, [], ◌∷◌, ◌++◌, length, get_or, take, refl, sym, ap, ◌∙◌, subst, arith}
+use Rattle.lf_definitions.specs.Syntax.{LfHead, bound, constant, metavariable, LfTerm, lam, at, Spine, no_args, arg, joined, LfType, pi, family, pis}
 use Rattle.lf_definitions.specs.Renaming.{next, next_by}
-use Rattle.lf_definitions.specs.Occurrence.{OccursIn, occurs_head, occurs_args, occurs_lam, OccursInSpine, occurs_first, occurs_later, OccursInType, occurs_binder, occurs_rest, occurs_family, OccursInContext, occurs_entry, occurs_after}
+use Rattle.lf_definitions.specs.Occurrence.{occurs_head, occurs_args, occurs_lam, occurs_first, occurs_later, occurs_binder, occurs_rest, occurs_family, occurs_entry, occurs_after}
 use Rattle.lf_definitions.specs.Substitution.{stays, rename_image, Replacement, up, push_all, Substituted, substituted_lam, substituted_stays, SubstitutedSpine, substituted_none, substituted_arg, SubstitutedType, substituted_pi, substituted_family}
 use Rattle.lf_definitions.proofs.Telescopes.{next_by-bound, next_by-metavariable, up_by-bound_small}
 use Rattle.lf_terms.specs.declared.extent.Extent.{Extent}
 use Rattle.lf_terms.specs.declared.term.Term.{Term}
 use Rattle.lf_terms.specs.declared.ty.Ty.{Ty}
-use Rattle.lf_terms.specs.Extents.{Covers, IsWider, IsOutside, IsWithin, HasNoMetavariable, InTerm, InSpine, InType, InContext, IsHead, no_bound}
+use Rattle.lf_terms.specs.Extents.{Covers, IsWider, IsOutside, IsWithin, InTerm, InSpine, InType, InContext, IsHead, no_bound}
 use Rattle.lf_terms.specs.Terms.{term_of, spine_of}
 use Rattle.lf_terms.specs.Types.{type_of, types_of}
 use Rattle.lf_terms.specs.Putting.{putting}
 use Rattle.lf_terms.proofs.Spines.{take_more_spine}
-use Rattle.lf_terms.proofs.TypeLists.{types_of-take_more, length-types_of}
+use Rattle.lf_terms.proofs.TypeLists.{types_of-take_more}
 use Rattle.lf_terms.proofs.Putting.{put_constant, put_metavariable}
 
 -- What is kept may be of more than what occurs.
@@ -184,6 +184,7 @@ putting_leaves sub by d Occurring inside (bound n) here = by_number (less_or n d
         more : (n < d) ⊎ (d ≤ n) → (suc n < suc d) ⊎ (suc d ≤ suc n)
         more (inl p) = inl (omega (arith, p))
         more (inr p) = inr (omega (arith, p))
+
     by_number : (n < d) ⊎ (d ≤ n) → putting sub by d (bound n) ≡ stays (bound n)
     by_number (inl less) = up_by-bound_small d n (push_all sub (λ h. stays (next_by by h))) less
     by_number (inr far) = absurd (inside n far here)

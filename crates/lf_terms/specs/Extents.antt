@@ -1,5 +1,5 @@
 -- What is kept of the heads that occur in something: a bound of the variables, and whether metavariables may be among them.
-use Rattle.std.specs.Prelude.{◌≡◌, ℕ, ◌+◌, ◌<◌, ◌≤◌, Bool, false}
+use Rattle.std.specs.Prelude.{◌≡◌, ℕ, ◌+◌, ◌<◌, ◌≤◌, false}
 use Rattle.lf_definitions.specs.Syntax.{LfHead, bound, metavariable, LfTerm, Spine, LfType, Context}
 use Rattle.lf_definitions.specs.Occurrence.{OccursIn, OccursInSpine, OccursInType, OccursInContext}
 use Rattle.lf_terms.specs.declared.extent.Extent.{Extent}

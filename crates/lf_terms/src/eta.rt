@@ -8,9 +8,9 @@ ghost use Rattle.lf_terms.specs.Shapes.{simple_type_of};
 ghost use Rattle.lf_terms.specs.Terms.{head_of, term_of};
 
 use crate::head::Head;
-use basics::NoMemory;
 use crate::shape::{Shape, Shapes};
 use crate::term::{Body, Term, Terms};
+use basics::NoMemory;
 use std::alloc::Global;
 
 /// The eta-long form of a head of a shape: the head, applied to the variables of as many abstractions as

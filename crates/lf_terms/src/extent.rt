@@ -32,7 +32,11 @@ impl Extent {
     {
         match head {
             Head::Bound(number) => Extent {
-                reach: if number < u32::MAX { number + 1 } else { number },
+                reach: if number < u32::MAX {
+                    number + 1
+                } else {
+                    number
+                },
                 metas: false,
             },
             Head::Const(_) => Extent::new(),

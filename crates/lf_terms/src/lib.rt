@@ -1,6 +1,7 @@
-//! The terms of LF with their shapes and types, goals, and signatures. Contracts see terms, shapes, types,
-//! goals and signatures as the plain data of `lf_definitions`; names, numbers and bytes are those of
-//! `basics`. Copies of terms share structure, of which no contract tells.
+//! The terms of LF with their shapes and types, goals, and signatures. `basics` and `lf_definitions` stand
+//! below, and contracts see terms, shapes, types, goals and signatures as the plain data of `lf_definitions`.
+//! Copies share structure. Each shared block keeps a bound of its variables, so that a substitution shares
+//! what it can't change.
 //! Proved: substitution, eta-long forms, shapes and equality meet their definitions, and a signature
 //! is well formed and finds its names.
 #![tactic(auto)]

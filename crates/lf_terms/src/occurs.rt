@@ -8,9 +8,9 @@ ghost use Rattle.lf_terms.specs.Terms.{head_of, term_of};
 ghost use Rattle.lf_terms.specs.Types.{type_of};
 
 use crate::head::Head;
-use basics::NoMemory;
 use crate::term::{Term, Terms};
 use crate::ty::{Ty, Tys};
+use basics::NoMemory;
 use std::alloc::Global;
 
 /// For each binder of a type, in order, whether it occurs in a later binder or in the conclusion.

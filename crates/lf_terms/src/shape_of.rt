@@ -5,9 +5,9 @@ ghost use Rattle.lf_definitions.specs.Syntax.{shape_of, shapes_of_types};
 ghost use Rattle.lf_terms.specs.Shapes.{simple_type_of};
 ghost use Rattle.lf_terms.specs.Types.{type_of};
 
-use basics::NoMemory;
 use crate::shape::{Shape, Shapes};
 use crate::ty::{Ty, Tys};
+use basics::NoMemory;
 use std::alloc::Global;
 
 /// The shape of a type: one argument for each binder.

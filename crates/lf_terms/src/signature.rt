@@ -10,11 +10,10 @@ ghost use Rattle.lf_terms.specs.Types.{type_of};
 ghost use Rattle.basics.specs.Limits.{most_symbols};
 
 use crate::found::Found;
-use basics::Name;
-use basics::Names;
 use crate::shape::Shapes;
 use crate::shape_of::shape_of;
 use crate::ty::{Kind, Ty};
+use basics::{Name, Names};
 use std::alloc::Global;
 use std::marker::Model;
 

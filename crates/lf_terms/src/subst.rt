@@ -10,10 +10,10 @@ ghost use Rattle.lf_terms.specs.Terms.{term_of, spine_of};
 ghost use Rattle.lf_terms.specs.Types.{type_of};
 
 use crate::head::Head;
-use basics::NoMemory;
 use crate::shape::{MetaShapes, Shape, Shapes};
 use crate::term::{Body, Term, Terms};
 use crate::ty::{Ty, Tys};
+use basics::NoMemory;
 use std::alloc::Global;
 
 /// The hereditary substitution of `sub` for the innermost variables of `term`, whose shapes are `inner`.

@@ -4,9 +4,9 @@ ghost use Rattle.std.specs.Prelude.{◌≡◌, IfOk, IsTrue, false, [], length};
 ghost use Rattle.lf_terms.specs.Extents.{Covers, IsWithin, HasNoMetavariable, InType, InContext};
 ghost use Rattle.lf_terms.specs.Types.{type_of, types_of, atom_of};
 
-use basics::NoMemory;
 use crate::extent::Extent;
 use crate::term::Terms;
+use basics::NoMemory;
 use std::alloc::Global;
 use std::marker::Model;
 use std::sync::Arc;
