@@ -10,3 +10,4 @@ pub mod SignatureEntries
 pub mod PuttingTypes
 pub mod Mentions
 pub mod Extents
+pub mod GoalLists

@@ -1,9 +1,13 @@
 //! Goals.
 
-ghost use Rattle.std.specs.Prelude.{◌≡◌, ◌++◌, [], ◌∷◌, OnOk, OnErr, length, map};
+ghost use Rattle.std.specs.Prelude.{◌≡◌, ◌↔◌, ◌++◌, [], ◌∷◌, IsTrue, IfOk, OnOk, OnErr, length, map};
+ghost use Rattle.lf_definitions.specs.ShapedGoals.{shapes_of_goals};
 ghost use Rattle.lf_terms.specs.Targets.{goal_of};
 
 use basics::NoMemory;
+use crate::same::{same_atom, same_tys};
+use crate::shape::{MetaShape, MetaShapes};
+use crate::shape_of::shapes_of;
 use crate::ty::{Atom, Ctx};
 use std::alloc::Global;
 use std::marker::Model;
@@ -34,6 +38,64 @@ impl Model for GoalList {
     ghost use Rattle.lf_terms.specs.Targets.{goal_of};
 
     ghost view = { λ a. map goal_of a.items.items };
+}
+
+impl Goal {
+    /// An equal goal, which shares its context and the arguments of its target.
+    pub fn copy(&self) -> Result<Goal, NoMemory>
+        ensures { IfOk result (λ goal. goal_of goal ≡ goal_of self.now) }
+    {
+        let ctx = self.ctx.copy()?;
+        let target = self.target.copy()?;
+        Ok(Goal {
+            id: self.id,
+            ctx,
+            target,
+        })
+    }
+}
+
+/// Whether two goals are equal, symbol by symbol, with their numbers. It takes no memory.
+pub fn same_goal(a: &Goal, b: &Goal) -> bool
+    ensures { IsTrue result ↔ (goal_of a.now ≡ goal_of b.now) }
+{
+    if a.id != b.id {
+        return false;
+    }
+    if !same_atom(&a.target, &b.target) {
+        return false;
+    }
+    same_tys(&a.ctx, &b.ctx)
+}
+
+/// Whether two lists have equal goals at each place. It takes no memory.
+pub fn same_goals(a: &GoalList, b: &GoalList) -> bool
+    ensures { IsTrue result ↔ (a.now ≡ b.now) }
+{
+    let goals = a.as_slice();
+    let others = b.as_slice();
+    if goals.len() != others.len() {
+        return false;
+    }
+    for i in 0..goals.len() {
+        if !same_goal(&goals[i], &others[i]) {
+            return false;
+        }
+    }
+    true
+}
+
+/// The shapes of goals as metavariables, in their order.
+pub fn shapes_of_metas(alloc: Global, goals: &GoalList) -> Result<MetaShapes, NoMemory>
+    ensures { IfOk result (λ shapes. shapes ≡ shapes_of_goals goals.now) }
+{
+    let items = goals.as_slice();
+    let mut shapes = Vec::with_capacity(alloc, items.len())?;
+    for goal in items {
+        let args = shapes_of(alloc, &goal.ctx)?;
+        shapes.push(MetaShape { id: goal.id, args })?;
+    }
+    Ok(MetaShapes::from_vec(shapes))
 }
 
 impl GoalList {
@@ -74,5 +136,17 @@ impl GoalList {
     {
         self.items.push(goal)?;
         Ok(())
+    }
+
+    /// An equal list, whose goals share what these hold.
+    pub fn copy(&self, alloc: Global) -> Result<GoalList, NoMemory>
+        ensures { IfOk result (λ goals. goals ≡ self.now) }
+    {
+        let goals = self.as_slice();
+        let mut copies = Vec::with_capacity(alloc, goals.len())?;
+        for goal in goals {
+            copies.push(goal.copy()?)?;
+        }
+        Ok(GoalList::from_vec(copies))
     }
 }
