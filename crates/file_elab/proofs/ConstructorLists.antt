@@ -43,12 +43,6 @@ family_within sig name f e = omega (arith, slice_get_within (family_names sig) f
 pub constant_within : (sig : LfSignature) (name : List ℕ) (c : ℕ) → place_of (constant_names sig) name ≡ Some c → c < length (constant_names sig)
 constant_within sig name c e = slice_get_within (constant_names sig) c name (place_found name (constant_names sig) c e)
 
-pub constructors_within : (sig : LfSignature) (f : ℕ) (constants : List ℕ) → AreConstructors sig f constants → All (λ c. c < length (constant_types sig)) constants
-constructors_within sig f constants good k d within =
-    let c = get_or constants k d in
-    let has : HasFamily sig f c = (good k c (slice_get-get_or constants k d within)).1 in
-    slice_get_within (constant_types sig) c has.type has.type_is
-
 pub no_constructors : (sig : LfSignature) (f : ℕ) (constants : List ℕ) → constants ≡ [] → AreConstructors sig f constants
 no_constructors sig f [] none = λ place constant here. absurd cc
 no_constructors sig f (c ∷ constants) none = absurd cc

@@ -17,8 +17,9 @@ use Rattle.rule_sets.specs.declared.rule.Rule.{Rule}
 use Rattle.rule_sets.specs.declared.rule.RuleFault.{RuleFault}
 use Rattle.rule_sets.specs.declared.rule.RuleFault.TheVariants.{BadMajor, Premises}
 use Rattle.rule_sets.specs.Books.{Book, list_of}
-use Rattle.rule_sets.specs.Refusals.{IsNoPercent, HasNoSubject, IsBadMajor, HasBadPremises, IsRuleOver, Adds, IsFirstFault, bad_major, premises}
-use Rattle.rule_sets.specs.Tests.{IsChosen, IsFree}
+use Rattle.rule_sets.specs.Refusals.{IsNoPercent, HasNoSubject, IsBadMajor, HasBadPremises, IsRuleOver, AddsRule, IsFirstFault, bad_major, premises}
+use Rattle.rule_sets.specs.Books.{IsUserBuilder}
+use Rattle.rule_sets.specs.Acceptance.{IsFree}
 use Rattle.basics.proofs.Membership.{not_contained}
 use Rattle.elab_terms.specs.KnownTypes.{IsRefusal}
 use Rattle.elab_terms.specs.Names.{Text, text_at}
@@ -30,7 +31,7 @@ use Rattle.file_elab.specs.Rules.{number_value, ReadsPhase, reads_norm, reads_sa
 use Rattle.file_elab.specs.ReadRules.{names_in, RefusesPhase, RefusesSubject, RefusesMajor, HasParts, IsReady, RefusesReady, refuses_bad_major, refuses_bad_premises}
 use Rattle.file_elab.proofs.MajorArguments.{major_number, no_major_number}
 
-chosen_builder : (word : BuildWord) → IsChosen (builder_of word)
+chosen_builder : (word : BuildWord) → IsUserBuilder (builder_of word)
 chosen_builder words.Apply = tt
 chosen_builder words.Constructors = tt
 chosen_builder words.Cases = tt
@@ -84,15 +85,15 @@ first_premises : (sig : LfSignature) (book : Book) (rule : Rule) → IsFirstFaul
     (IsBadMajor sig rule.builder rule.subject rule.major → ⊥) × HasBadPremises sig rule.builder rule.subject
 first_premises sig book rule (premises _ _ _ _ good bad) = (good, bad)
 
-pub major_answered : (sig : LfSignature) (old new : Book) (rule : Rule) (answer : Result (Unit {0}) RuleFault) → answer ≡ Err BadMajor → Adds sig old rule answer new →
+pub major_answered : (sig : LfSignature) (old new : Book) (rule : Rule) (answer : Result (Unit {0}) RuleFault) → answer ≡ Err BadMajor → AddsRule sig old rule answer new →
     IsBadMajor sig rule.builder rule.subject rule.major
 major_answered sig old new rule answer is adds =
-    let P : Result (Unit {0}) RuleFault → Type 0 = λ a. Adds sig old rule a new in first_major sig old rule (subst P is adds).0
+    let P : Result (Unit {0}) RuleFault → Type 0 = λ a. AddsRule sig old rule a new in first_major sig old rule (subst P is adds).0
 
-pub premises_answered : (sig : LfSignature) (old new : Book) (rule : Rule) (answer : Result (Unit {0}) RuleFault) → answer ≡ Err Premises → Adds sig old rule answer new →
+pub premises_answered : (sig : LfSignature) (old new : Book) (rule : Rule) (answer : Result (Unit {0}) RuleFault) → answer ≡ Err Premises → AddsRule sig old rule answer new →
     (IsBadMajor sig rule.builder rule.subject rule.major → ⊥) × HasBadPremises sig rule.builder rule.subject
 premises_answered sig old new rule answer is adds =
-    let P : Result (Unit {0}) RuleFault → Type 0 = λ a. Adds sig old rule a new in first_premises sig old rule (subst P is adds).0
+    let P : Result (Unit {0}) RuleFault → Type 0 = λ a. AddsRule sig old rule a new in first_premises sig old rule (subst P is adds).0
 
 -- The parts of one declaration.
 module _ (text : Text) (sig : LfSignature) (book : Book) (phase : PhaseWord) (number : Span) (builder : BuildWord) (subject : Span) (major : Option Span) where
@@ -123,7 +124,7 @@ module _ (text : Text) (sig : LfSignature) (book : Book) (phase : PhaseWord) (nu
 
     pub ready : (name : Span) → word ≡ text_at text name → MayBeNamed (names_in book) most_rules (text_at text name) → IsReady sig book rule
     ready name is may =
-        let P : Builder → Type 0 = IsChosen in
+        let P : Builder → Type 0 = IsUserBuilder in
         let Q : Builder → Type 0 = λ b. HasNoSubject sig book b rule.subject → ⊥ in
         record {
           free = name_free book (text_at text name) rule (parts.name_is ∙ is) may;

@@ -8,7 +8,8 @@ use Rattle.rule_sets.specs.declared.rule.Builder.{Builder}
 use Rattle.rule_sets.specs.declared.rule.Rule.{Rule}
 use Rattle.rule_sets.specs.Books.{Book}
 use Rattle.rule_sets.specs.Refusals.{IsNoPercent, HasNoSubject, IsBadMajor, HasBadPremises}
-use Rattle.rule_sets.specs.Tests.{IsChosen, IsFree}
+use Rattle.rule_sets.specs.Books.{IsUserBuilder}
+use Rattle.rule_sets.specs.Acceptance.{IsFree}
 use Rattle.elab_terms.specs.Names.{Text, text_at}
 use Rattle.elab_terms.specs.declared.elab_fault.ElabFault.{ElabFault}
 use Rattle.elab_terms.specs.declared.elab_fault.ElabFault.TheVariants.{Unknown, BadRule}
@@ -46,7 +47,7 @@ pub record HasParts (text : Text) (sig : LfSignature) (book : Book) (name : List
 -- A book takes the rule, if its major argument and its premises are right.
 pub record IsReady (sig : LfSignature) (book : Book) (rule : Rule) : Type 0 where
   pub free : IsFree book rule
-  pub chosen : IsChosen rule.builder
+  pub chosen : IsUserBuilder rule.builder
   pub percent : IsNoPercent rule.phase → ⊥
   pub subject : HasNoSubject sig book rule.builder rule.subject → ⊥
 

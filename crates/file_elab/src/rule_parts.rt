@@ -5,7 +5,7 @@ ghost use Rattle.elab_terms.specs.Names.{text_at};
 ghost use Rattle.file_elab.specs.Rules.{number_value, ReadsPhase, builder_of, subject_of, major_value, set_of};
 ghost use Rattle.elab_terms.specs.FileTexts.{text_in};
 ghost use Rattle.rule_sets.specs.declared.rule.Phase.{Phase};
-ghost use Rattle.rule_sets.specs.Tests.{IsChosen};
+ghost use Rattle.rule_sets.specs.Books.{IsUserBuilder};
 
 use crate::number::{natural, penalty};
 use elab_terms::names::{constant_named, family_named};
@@ -45,7 +45,7 @@ pub fn read_phase(word: PhaseWord, text: &[u8]) -> Option<Phase>
 /// The builder that a word names.
 pub fn read_builder(word: BuildWord) -> Builder
     ensures is { result ≡ builder_of word }
-    ensures chosen { IsChosen result }
+    ensures chosen { IsUserBuilder result }
 {
     match word {
         BuildWord::Apply => Builder::Apply,

@@ -3,8 +3,11 @@ pub mod Types
 pub mod Premises
 pub mod Tested
 pub mod Constructors
-pub mod Turns
+pub mod Candidates
 pub mod Sets
 pub mod Over
 pub mod Orders
 pub mod Atoms
+pub mod BookParts
+pub mod Decisions
+mod FittingRules

@@ -7,7 +7,7 @@ use Rattle.rule_sets.specs.declared.rule.Phase.{Phase}
 use Rattle.rule_sets.specs.declared.rule.Rule.{Rule}
 use Rattle.rule_sets.specs.Books.{Book}
 use Rattle.rule_sets.specs.Orders.{IsBefore, norm_before_safe, norm_before_unsafe, safe_before_unsafe, lower_norm, lower_safe, higher_unsafe, IsTriedBefore, IsOrder}
-use Rattle.rule_sets.proofs.Turns.{at_from_Contains, Contains_from_at}
+use Rattle.rule_sets.proofs.Candidates.{at_from_Contains, Contains_from_at}
 
 not_both : (a b : Phase) → IsBefore a b → IsBefore b a → ⊥
 not_both _ _ (norm_before_safe p q) h = elim h [ ]

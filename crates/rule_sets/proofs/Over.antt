@@ -14,7 +14,8 @@ use Rattle.rule_sets.specs.declared.rule.RuleFault.TheVariants.{Taken, Full, Per
 use Rattle.rule_sets.specs.declared.rule.CtorFault.{CtorFault}
 use Rattle.rule_sets.specs.declared.rule.CtorFault.TheVariants as ctors
 use Rattle.rule_sets.specs.Books.{Book, Listed, list_of, first_book}
-use Rattle.rule_sets.specs.Refusals.{HasNoSubject, IsMajor, IsBadMajor, HasPremises, HasBadPremises, IsRuleOver, Adds, AddsList, AreConstructors, IsListOver, IsOver}
+use Rattle.rule_sets.specs.Refusals.{HasNoSubject, IsMajor, IsBadMajor, HasPremises, HasBadPremises, IsRuleOver, AddsRule, AddsList, AreConstructors, IsListOver, IsOver}
+use Rattle.rule_sets.proofs.BookParts.{built_in_more}
 use Rattle.rule_sets.proofs.Constructors.{slice_get-last}
 
 -- What a longer signature keeps.
@@ -79,6 +80,7 @@ module _ (sig more : LfSignature) where
 
   rule_stays : (book : Book) (rule : Rule) → IsRuleOver sig book rule → IsRuleOver (sig ++ more) book rule
   rule_stays book rule over = record {
+    builder = over.builder;
     percent = over.percent;
     subject = λ none. over.subject (no_subject book rule.builder rule.subject none);
     major = λ bad. over.major (bad_major rule.builder rule.subject rule.major bad);
@@ -95,12 +97,13 @@ module _ (sig more : LfSignature) where
 
 pub stays_over : (sig more : LfSignature) (book : Book) → IsOver sig book → IsOver (sig ++ more) book
 stays_over sig more book over = record {
+  built_in = over.built_in;
   rules = λ place rule is. rule_stays sig more book rule (over.rules place rule is);
   lists = All-weaker (IsListOver sig) (IsListOver (sig ++ more)) (list_stays sig more) book.lists over.lists;
 }
 
 pub first_is_over : (sig : LfSignature) → IsOver sig first_book
-first_is_over sig = record { rules = λ place rule is. absurd cc; lists = All-nil (IsListOver sig) }
+first_is_over sig = record { built_in = refl; rules = λ place rule is. absurd cc; lists = All-nil (IsListOver sig) }
 
 -- A book with more lists has at least the subjects.
 has_list : (lists : List Listed) (listed : Listed) (f : ℕ) → list_of (lists ++ listed ∷ []) f ≡ None → list_of lists f ≡ None
@@ -122,6 +125,7 @@ more_lists sig old new Hyps subject fewer none = none
 
 rule_in : (sig : LfSignature) (old new : Book) (rule : Rule) → ((f : ℕ) → list_of new.lists f ≡ None → list_of old.lists f ≡ None) → IsRuleOver sig old rule → IsRuleOver sig new rule
 rule_in sig old new rule fewer over = record {
+  builder = over.builder;
   percent = over.percent;
   subject = λ none. over.subject (more_lists sig old new rule.builder rule.subject (fewer rule.subject) none);
   major = over.major;
@@ -133,6 +137,7 @@ rule_added sig old new rule over fits is =
     let P : Book → Type 0 = IsOver sig in
     let after : Book = record { rules = old.rules ++ rule ∷ []; lists = old.lists } in
     subst P (sym is) (record {
+      built_in = built_in_more old.rules rule over.built_in;
       rules = λ place other here.
           elim (slice_get-last old.rules rule other (suc (suc place)) here) [
             | inl (within, before) ↦ rule_in sig old after other (λ f none. none) (over.rules place other before)
@@ -144,7 +149,7 @@ rule_added sig old new rule over fits is =
 unchanged : (sig : LfSignature) (old new : Book) → IsOver sig old → new ≡ old → IsOver sig new
 unchanged sig old new over is = let P : Book → Type 0 = IsOver sig in subst P (sym is) over
 
-pub rule_keeps_over : (sig : LfSignature) (old new : Book) (rule : Rule) (answer : Result (Unit {0}) RuleFault) → IsOver sig old → Adds sig old rule answer new → IsOver sig new
+pub rule_keeps_over : (sig : LfSignature) (old new : Book) (rule : Rule) (answer : Result (Unit {0}) RuleFault) → IsOver sig old → AddsRule sig old rule answer new → IsOver sig new
 rule_keeps_over sig old new rule (Ok done) over adds = rule_added sig old new rule over adds.2 adds.3
 rule_keeps_over sig old new rule (Err Taken) over adds = unchanged sig old new over adds.1
 rule_keeps_over sig old new rule (Err Full) over adds = unchanged sig old new over adds.1
@@ -161,6 +166,7 @@ list_added sig old new f constants within over good is =
     let listed : Listed = record { of_family = f; constants = constants } in
     let after : Book = record { rules = old.rules; lists = old.lists ++ listed ∷ [] } in
     subst P (sym is) (record {
+      built_in = over.built_in;
       rules = λ place rule here. rule_in sig old after rule (has_list old.lists listed) (over.rules place rule here);
       lists = All-append (IsListOver sig) old.lists (listed ∷ []) over.lists
           (All-cons (IsListOver sig) listed [] (record { family_is = within; constructors = good }) (All-nil (IsListOver sig)));

@@ -9,7 +9,7 @@ use Rattle.lf_terms.specs.declared.ty.Ty.{Ty}
 use Rattle.lf_terms.specs.Types.{type_of, types_of}
 use Rattle.lf_terms.specs.Mentions.{AreMentions, mentions_binder}
 use Rattle.rule_sets.specs.Refusals.{IsAtomic}
-use Rattle.rule_sets.specs.Tests.{HasPremisesOf}
+use Rattle.rule_sets.specs.Acceptance.{HasPremisesOf}
 
 abbrev pub unmarked : List Ty → List Bool → List LfType
 unmarked [] ms = []

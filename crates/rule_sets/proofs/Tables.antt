@@ -14,7 +14,7 @@ pub list_of-listed : (f : ℕ) (es : List (ℕ × List ℕ)) → list_of (map li
 list_of-listed f [] = refl
 list_of-listed f (e ∷ es) = ap₂ (λ b (o : Option (List ℕ)). cond b (Some e.1) o) (nat_eq_sym e.0 f) (list_of-listed f es)
 
-none_step : (b : Bool) (xs : List ℕ) (o : Option (List ℕ)) → (if b then Some xs else o) ≡ None → (b ≡ false) × (o ≡ None)
+pub none_step : (b : Bool) (xs : List ℕ) (o : Option (List ℕ)) → (if b then Some xs else o) ≡ None → (b ≡ false) × (o ≡ None)
 none_step true xs o e = absurd cc
 none_step false xs o e = (refl, e)
 

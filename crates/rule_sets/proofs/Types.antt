@@ -8,7 +8,7 @@ use Rattle.lf_terms.specs.declared.ty.Ty.{Ty}
 use Rattle.lf_terms.specs.Types.{type_of, types_of}
 use Rattle.lf_terms.proofs.TypeLists.{length-types_of}
 use Rattle.rule_sets.specs.Refusals.{IsAtomic, argument_at}
-use Rattle.rule_sets.specs.Tests.{HasMajor}
+use Rattle.rule_sets.specs.Acceptance.{HasMajor}
 
 pub atomic_with_none : (bs : List LfType) (f : ℕ) (args : Spine) → length bs ≡ 0 → IsAtomic (pis bs (family f args))
 atomic_with_none [] f args none = tt

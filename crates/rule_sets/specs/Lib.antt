@@ -1,6 +1,7 @@
 pub mod Books
 pub mod Refusals
 pub mod Orders
-pub mod Shown
-pub mod Tests
-pub mod Turns
+pub mod BookParts
+pub mod Acceptance
+pub mod Candidates
+pub mod FittingRules

@@ -13,7 +13,7 @@ use Rattle.rule_sets.specs.declared.rule.RuleFault.{RuleFault}
 use Rattle.rule_sets.specs.declared.rule.RuleFault.TheVariants.{Taken, Full, Percent, NoConst, BadMajor, Premises, NoMemory}
 use Rattle.rule_sets.specs.declared.rule.CtorFault.{CtorFault}
 use Rattle.rule_sets.specs.declared.rule.CtorFault.TheVariants as ctors
-use Rattle.rule_sets.specs.Books.{Book, Listed, list_of}
+use Rattle.rule_sets.specs.Books.{Book, Listed, first_book, list_of, IsUserBuilder}
 
 -- a type with no binders
 abbrev pub IsAtomic : LfType → Type 0
@@ -85,19 +85,20 @@ pub data IsFirstFault (sig : LfSignature) (book : Book) (rule : Rule) : RuleFaul
       (HasNoSubject sig book rule.builder rule.subject → ⊥) → (IsBadMajor sig rule.builder rule.subject rule.major → ⊥) →
       HasBadPremises sig rule.builder rule.subject → IsFirstFault sig book rule Premises
 
--- A rule fits a signature, with the constructors that are listed.
+-- A rule that is not built in fits a signature, with the constructors that are listed.
 pub record IsRuleOver (sig : LfSignature) (book : Book) (rule : Rule) : Type 0 where
+  pub builder : IsUserBuilder rule.builder
   pub percent : IsNoPercent rule.phase → ⊥
   pub subject : HasNoSubject sig book rule.builder rule.subject → ⊥
   pub major : IsBadMajor sig rule.builder rule.subject rule.major → ⊥
   pub premises : HasBadPremises sig rule.builder rule.subject → ⊥
 
 -- A rule is added at the end where it has no fault; after a refusal the book is as it was.
-abbrev pub Adds : LfSignature → Book → Rule → Result (Unit {0}) RuleFault → Book → Type 0
-Adds sig old rule (Ok done) new =
+abbrev pub AddsRule : LfSignature → Book → Rule → Result (Unit {0}) RuleFault → Book → Type 0
+AddsRule sig old rule (Ok done) new =
     (IsTaken old rule → ⊥) × (IsFull old → ⊥) × IsRuleOver sig old rule × (new ≡ record { rules = old.rules ++ rule ∷ []; lists = old.lists })
-Adds sig old rule (Err (NoMemory kept)) new = (kept ≡ rule) × (new ≡ old)
-Adds sig old rule (Err fault) new = IsFirstFault sig old rule fault × (new ≡ old)
+AddsRule sig old rule (Err (NoMemory kept)) new = (kept ≡ rule) × (new ≡ old)
+AddsRule sig old rule (Err fault) new = IsFirstFault sig old rule fault × (new ≡ old)
 
 -- The constant's conclusion has the family.
 pub record HasFamily (sig : LfSignature) (f constant : ℕ) : Type 0 where
@@ -131,7 +132,8 @@ pub record IsListOver (sig : LfSignature) (listed : Listed) : Type 0 where
   pub family_is : listed.of_family < length (family_kinds sig)
   pub constructors : AreConstructors sig listed.of_family listed.constants
 
--- The rules of a book were added over a signature: each but the two built-in ones fits it, and so does each list of constructors.
+-- The rules of a book were added over a signature: after the two built-in ones each fits it, and so does each list of constructors.
 pub record IsOver (sig : LfSignature) (book : Book) : Type 0 where
+  pub built_in : take 2 book.rules ≡ first_book.rules
   pub rules : (place : ℕ) (rule : Rule) → slice_get book.rules (suc (suc place)) ≡ Some rule → IsRuleOver sig book rule
   pub lists : All (IsListOver sig) book.lists

@@ -3,21 +3,21 @@
 ghost use Rattle.std.specs.Prelude.{◌≡◌, ◌<◌, List, [], ◌∷◌, ◌++◌, length, map, codes, Some, None, All, slice_get, option_copied, IfOk, IfErr, OnOk, OnErr};
 ghost use Rattle.lf_definitions.specs.Signatures.{constant_types, family_kinds};
 ghost use Rattle.basics.specs.Places.{place_of};
-ghost use Rattle.rule_sets.specs.Books.{first_book, list_of, listed};
-ghost use Rattle.rule_sets.specs.Refusals.{Adds, AddsList};
-ghost use Rattle.rule_sets.specs.Tests.{IsChosen, IsFree};
+ghost use Rattle.rule_sets.specs.Books.{first_book, list_of, listed, IsUserBuilder, IsBook};
+ghost use Rattle.rule_sets.specs.Refusals.{AddsRule, AddsList};
+ghost use Rattle.rule_sets.specs.Acceptance.{IsFree};
 
 use crate::faults::first_fault;
 use crate::lists::first_fault_of_list;
 use crate::rule::{Builder, CtorFault, Phase, Rule, RuleFault};
-use indexmap::IndexMap;
 use basics::{Ids, Name, Names, NoMemory};
+use indexmap::IndexMap;
 use lf_terms::Signature;
 use std::alloc::Global;
 use std::marker::Model;
 
 /// Rules, numbered from 0 in the order in which they were added, and the constructors that are listed
-/// for families. A contract sees a `Book`.
+/// for families. A contract sees a `Book`, which `is_formed` describes.
 #[derive(Drop)]
 pub struct RuleBook {
     rules: Vec<Rule>,
@@ -26,15 +26,15 @@ pub struct RuleBook {
 }
 
 impl Model for RuleBook {
-    ghost use Rattle.std.specs.Prelude.{◌≡◌, ◌≤◌, length, map};
+    ghost use Rattle.std.specs.Prelude.{map};
     ghost use Rattle.rule_sets.specs.Books.{Book, listed};
-    ghost use Rattle.rule_sets.specs.Shown.{IsShown};
+    ghost use Rattle.rule_sets.specs.BookParts.{AreBookParts};
 
     ghost Value = { Book };
 
     ghost view = { λ a. record { rules = a.rules.items; lists = map listed a.lists.entries } };
 
-    ghost invariant = { λ a. IsShown a.rules.items a.names };
+    ghost invariant = { λ a. AreBookParts a.rules.items a.names (map listed a.lists.entries) };
 }
 
 impl RuleBook {
@@ -55,6 +55,14 @@ impl RuleBook {
             names,
             lists: IndexMap::new(alloc),
         })
+    }
+
+    /// A law: a book begins with the built-in rules, the names of its rules differ, and a family has at
+    /// most one list. It does nothing.
+    pub fn is_formed(&self)
+        ensures { IsBook self.now }
+    {
+        let _ = &self.rules;
     }
 
     /// How many rules the book has.
@@ -82,8 +90,8 @@ impl RuleBook {
     /// Adds a rule at the end, unless it has a fault; the answer is its first one then. After a refusal
     /// the book is as it was, and when memory runs out the rule comes back.
     pub fn add(&mut self, alloc: Global, sig: &Signature, rule: Rule) -> Result<(), RuleFault>
-        requires { IsChosen rule.builder }
-        ensures { Adds sig.now self.old rule result self.new }
+        requires { IsUserBuilder rule.builder }
+        ensures { AddsRule sig.now self.old rule result self.new }
     {
         match first_fault(alloc, self, sig, &rule) {
             Err(_) => Err(RuleFault::NoMemory(rule)),
@@ -124,8 +132,7 @@ impl RuleBook {
         family: u32,
         constants: Ids,
     ) -> Result<(), CtorFault>
-        requires family { family < length (family_kinds sig.now) }
-        requires constants { All (λ constant. constant < length (constant_types sig.now)) constants }
+        requires { family < length (family_kinds sig.now) }
         ensures { AddsList sig.now self.old family constants result self.new }
     {
         if self.ctors(family).is_some() {

@@ -4,13 +4,14 @@ ghost use Rattle.std.specs.Prelude.{◌≡◌, ◌↔◌, Some, slice_get, optio
 ghost use Rattle.lf_definitions.specs.Signatures.{constant_types};
 ghost use Rattle.lf_terms.specs.Types.{type_of};
 ghost use Rattle.rule_sets.specs.Refusals.{IsAtomic, IsTaken, IsFull, IsNoPercent, HasNoSubject, IsBadMajor, HasBadPremises, IsFirstFault};
-ghost use Rattle.rule_sets.specs.Tests.{IsChosen, HasNoFault, HasMajor, HasPremisesOf};
+ghost use Rattle.rule_sets.specs.Books.{IsUserBuilder};
+ghost use Rattle.rule_sets.specs.Acceptance.{HasNoFault, HasMajor, HasPremisesOf};
 
-use basics::limits::MOST_RULES;
 use crate::book::RuleBook;
 use crate::rule::{Builder, Phase, Rule, RuleFault};
-use lf_terms::occurs::mentioned_binders;
 use basics::NoMemory;
+use basics::limits::MOST_RULES;
+use lf_terms::occurs::mentioned_binders;
 use lf_terms::{Signature, Ty};
 use std::alloc::Global;
 
@@ -24,7 +25,7 @@ pub fn first_fault(
     sig: &Signature,
     rule: &Rule,
 ) -> Result<Option<RuleFault>, NoMemory>
-    requires { IsChosen rule.now.builder }
+    requires { IsUserBuilder rule.now.builder }
     ensures { IfOk result (λ fault. MatchOption fault (HasNoFault sig.now book.now rule.now) (IsFirstFault sig.now book.now rule.now)) }
 {
     if is_taken(book, rule) {

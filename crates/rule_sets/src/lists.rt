@@ -1,13 +1,12 @@
 //! What keeps a list of constructors out of a book.
 
-ghost use Rattle.std.specs.Prelude.{◌≡◌, ◌<◌, None, All, length, IfOk, MatchOption};
-ghost use Rattle.lf_definitions.specs.Signatures.{constant_types};
+ghost use Rattle.std.specs.Prelude.{◌≡◌, ◌↔◌, None, IsTrue, IfOk, MatchOption};
 ghost use Rattle.rule_sets.specs.Books.{Book, list_of};
-ghost use Rattle.rule_sets.specs.Refusals.{AreConstructors, IsFirstFaultOfList};
+ghost use Rattle.rule_sets.specs.Refusals.{AreConstructors, HasFamily, IsFirstFaultOfList};
 
 use crate::rule::CtorFault;
-use indexmap::IndexSet;
 use basics::{Ids, NoMemory};
+use indexmap::IndexSet;
 use lf_terms::Signature;
 use std::alloc::Global;
 
@@ -18,7 +17,6 @@ pub fn first_fault_of_list(
     family: u32,
     constants: &Ids,
 ) -> Result<Option<CtorFault>, NoMemory>
-    requires { All (λ constant. constant < length (constant_types sig.now)) constants.now }
     ensures { IfOk result (λ fault. MatchOption fault (AreConstructors sig.now family constants.now)
         (λ fault. (book : Book) → list_of book.lists family ≡ None → IsFirstFaultOfList sig.now book family constants.now fault)) }
 {
@@ -32,9 +30,19 @@ pub fn first_fault_of_list(
         if !is_new {
             return Ok(Some(CtorFault::Repeated(i as u32)));
         }
-        if sig.type_of(items[i]).family != family {
+        if !has_family(sig, items[i], family) {
             return Ok(Some(CtorFault::Other(i as u32)));
         }
     }
     Ok(None)
+}
+
+// Whether a number is that of a constant whose conclusion has the family.
+fn has_family(sig: &Signature, number: u32, family: u32) -> bool
+    ensures { IsTrue result ↔ HasFamily sig.now family number }
+{
+    if number >= sig.constants() {
+        return false;
+    }
+    sig.type_of(number).family == family
 }

@@ -2,7 +2,7 @@
 
 ghost use Rattle.std.specs.Prelude.{◌≡◌, ◌↔◌, ◌⊎◌, ◌∷◌, List, ℕ, length, codes, map, Contains, IsTrue, IfOk};
 ghost use Rattle.rule_sets.specs.Orders.{IsOrder};
-ghost use Rattle.rule_sets.specs.Turns.{key_of, AreTurns};
+ghost use Rattle.rule_sets.specs.Candidates.{key_of, AreCandidates};
 
 use crate::book::RuleBook;
 use crate::rule::{Phase, Sets};
@@ -42,7 +42,7 @@ impl Ordered {
 
 // A rule that is tried, by its number, with its phase.
 #[derive(Clone, Copy)]
-struct Turn {
+struct Candidate {
     phase: Phase,
     number: u32,
 }
@@ -55,9 +55,12 @@ impl RuleBook {
         ensures { IfOk result (λ ordered. IsOrder self.now sets.now ordered) }
     {
         let chosen = with_built_in(alloc, sets)?;
-        let mut turns = turns(alloc, self, &chosen)?;
-        turns.sort_unstable_by_key(key_of);
-        let items = turns.iter().map(|turn| turn.number).collect(alloc)?;
+        let mut candidates = candidates(alloc, self, &chosen)?;
+        candidates.sort_unstable_by_key(key_of);
+        let items = candidates
+            .iter()
+            .map(|candidate| candidate.number)
+            .collect(alloc)?;
         Ok(Ordered { items })
     }
 }
@@ -84,30 +87,30 @@ fn has(names: &Names, name: &Name) -> bool
 }
 
 // The rules of the chosen sets, by rising number.
-fn turns(alloc: Global, book: &RuleBook, chosen: &Names) -> Result<Vec<Turn>, NoMemory>
-    ensures { IfOk result (λ turns. AreTurns book.now chosen.now (length book.now.rules) turns.items) }
+fn candidates(alloc: Global, book: &RuleBook, chosen: &Names) -> Result<Vec<Candidate>, NoMemory>
+    ensures { IfOk result (λ candidates. AreCandidates book.now chosen.now (length book.now.rules) candidates.items) }
 {
-    let mut turns = Vec::new(alloc);
+    let mut candidates = Vec::new(alloc);
     for number in 0..book.count() {
         let rule = book.rule(number);
         if has(chosen, &rule.set) {
-            turns.push(Turn {
+            candidates.push(Candidate {
                 phase: rule.phase,
                 number,
             })?;
         }
     }
-    Ok(turns)
+    Ok(candidates)
 }
 
 // What rises along the rules as they are tried: the stage, the penalty or the percentage with its sign
 // turned, and the number.
-fn key_of(turn: &Turn) -> (u8, i32, u32)
-    ensures { result ≡ key_of turn.now }
+fn key_of(candidate: &Candidate) -> (u8, i32, u32)
+    ensures { result ≡ key_of candidate.now }
 {
-    match turn.phase {
-        Phase::Norm(penalty) => (0, penalty, turn.number),
-        Phase::Safe(penalty) => (1, penalty, turn.number),
-        Phase::Unsafe(percent) => (2, -i32::from(percent), turn.number),
+    match candidate.phase {
+        Phase::Norm(penalty) => (0, penalty, candidate.number),
+        Phase::Safe(penalty) => (1, penalty, candidate.number),
+        Phase::Unsafe(percent) => (2, -i32::from(percent), candidate.number),
     }
 }

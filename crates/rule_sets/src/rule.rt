@@ -65,7 +65,7 @@ pub enum CtorFault {
     Taken,
     /// The entry at this place stands earlier in the list.
     Repeated(u32),
-    /// The conclusion of the entry at this place has another family.
+    /// The entry at this place is no constant, or its conclusion has another family.
     Other(u32),
     /// Memory ran out. The list comes back.
     NoMemory(Ids),

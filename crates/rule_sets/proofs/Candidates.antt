@@ -1,4 +1,4 @@
--- Turns, one more at a time, and their order.
+-- Candidates, one more at a time, and their order.
 use Rattle.std.proofs.Common.{◌≡◌, ◌≢◌, ◌↔◌, ℕ, zero, suc, ◌+◌, ◌<◌, Bool, true, false, List, [], ◌∷◌, ◌++◌, length, get_or, map, Option, Some, refl, sym, ap, ◌∙◌, subst, ap₂, subst₂, arith, ◌⊎◌, inl, inr}
 use Rattle.std.specs.Prelude.{slice_get, Contains, All, ℤ, pos, neg_ℤ, ◌<ℤ◌, nat_eq, codes, ◌||◌}
 use Rattle.std.specs.List.{IsDistinct, list_any}
@@ -18,10 +18,10 @@ use Rattle.lf_definitions.proofs.Options.{Some-Some}
 use Rattle.rule_sets.specs.declared.rule.Phase.{Phase}
 use Rattle.rule_sets.specs.declared.rule.Phase.TheVariants.{Norm, Safe, Unsafe}
 use Rattle.rule_sets.specs.declared.rule.Rule.{Rule}
-use Rattle.rule_sets.specs.declared.order.Turn.{Turn}
+use Rattle.rule_sets.specs.declared.order.Candidate.{Candidate}
 use Rattle.rule_sets.specs.Books.{Book}
 use Rattle.rule_sets.specs.Orders.{IsActive, IsBefore, norm_before_safe, norm_before_unsafe, safe_before_unsafe, lower_norm, lower_safe, higher_unsafe, IsTriedBefore, IsOrder}
-use Rattle.rule_sets.specs.Turns.{key_in, key_of, IsTurn, AreTurns}
+use Rattle.rule_sets.specs.Candidates.{key_in, key_of, IsCandidate, AreCandidates}
 
 -- Lists by their places.
 
@@ -34,10 +34,10 @@ Contains_from_at xs i x e = (i, slice_get_within xs i x e, get_or_from_slice_get
 all_at : {X : Type 0} (P : X → Type 0) (xs : List X) (i : ℕ) (x : X) → All P xs → slice_get xs i ≡ Some x → P x
 all_at P xs i x all e = subst P (get_or_from_slice_get xs i x x e) (all i x (slice_get_within xs i x e))
 
-abbrev numbers : List Turn → List ℕ
-numbers ts = map (λ turn. turn.number) ts
+abbrev numbers : List Candidate → List ℕ
+numbers ts = map (λ candidate. candidate.number) ts
 
-number_at : (ts : List Turn) (i k : ℕ) → slice_get (numbers ts) i ≡ Some k → (t : Turn) × (slice_get ts i ≡ Some t) × (t.number ≡ k)
+number_at : (ts : List Candidate) (i k : ℕ) → slice_get (numbers ts) i ≡ Some k → (t : Candidate) × (slice_get ts i ≡ Some t) × (t.number ≡ k)
 number_at [] i k e = absurd cc
 number_at (t ∷ ts) zero k e = (t, refl, inj e)
   where
@@ -45,21 +45,21 @@ number_at (t ∷ ts) zero k e = (t, refl, inj e)
     inj e = cc
 number_at (t ∷ ts) (suc i) k e = number_at ts i k e
 
-at_number : (ts : List Turn) (i : ℕ) (t : Turn) → slice_get ts i ≡ Some t → slice_get (numbers ts) i ≡ Some t.number
+at_number : (ts : List Candidate) (i : ℕ) (t : Candidate) → slice_get ts i ≡ Some t → slice_get (numbers ts) i ≡ Some t.number
 at_number [] i t e = absurd cc
-at_number (u ∷ ts) zero t e = ap (λ (x : Turn). Some x.number) (inj e)
+at_number (u ∷ ts) zero t e = ap (λ (x : Candidate). Some x.number) (inj e)
   where
-    inj : {a b : Turn} → ◌≡◌ {A = Option Turn} (Some a) (Some b) → a ≡ b
+    inj : {a b : Candidate} → ◌≡◌ {A = Option Candidate} (Some a) (Some b) → a ≡ b
     inj e = cc
 at_number (u ∷ ts) (suc i) t e = at_number ts i t e
 
--- Turns, one more.
+-- Candidates, one more.
 
-abbrev same_number : Turn → Turn → Bool
-same_number turn other = nat_eq turn.number other.number
+abbrev same_number : Candidate → Candidate → Bool
+same_number candidate other = nat_eq candidate.number other.number
 
 same_number_equiv : IsEquivalence same_number
-same_number_equiv = on_equiv (λ (t : Turn). t.number) nat_eq_equiv
+same_number_equiv = on_equiv (λ (t : Candidate). t.number) nat_eq_equiv
 
 unlike : (n m : ℕ) → m < n → nat_eq n m ≡ false
 unlike n m less = by (nat_eq n m) refl
@@ -68,57 +68,57 @@ unlike n m less = by (nat_eq n m) refl
     by true e = let same : n ≡ m = eqb-true n m e in absurd (omega arith)
     by false e = e
 
-none_like : (n : ℕ) (ts : List Turn) → All (λ turn. turn.number < n) ts → list_any (λ other. nat_eq n other.number) ts ≡ false
+none_like : (n : ℕ) (ts : List Candidate) → All (λ candidate. candidate.number < n) ts → list_any (λ other. nat_eq n other.number) ts ≡ false
 none_like n [] below = refl
-none_like n (t ∷ ts) below = any_step _ _ (unlike n t.number (below 0 t (omega arith))) (none_like n ts (All-tail (λ turn. turn.number < n) t ts below))
+none_like n (t ∷ ts) below = any_step _ _ (unlike n t.number (below 0 t (omega arith))) (none_like n ts (All-tail (λ candidate. candidate.number < n) t ts below))
   where
     any_step : (a b : Bool) → a ≡ false → b ≡ false → a || b ≡ false
     any_step a b e f = ap₂ (λ x y. x || y) e f
 
-pub no_turns : (book : Book) (chosen : List (List ℕ)) → AreTurns book chosen 0 []
+pub no_candidates : (book : Book) (chosen : List (List ℕ)) → AreCandidates book chosen 0 []
 unfolding IsDistinct
-no_turns book chosen = record {
-  are_turns = All-nil (IsTurn book chosen);
+no_candidates book chosen = record {
+  are_candidates = All-nil (IsCandidate book chosen);
   all = λ number rule within is has. absurd (omega arith);
-  below = All-nil (λ turn. turn.number < 0);
+  below = All-nil (λ candidate. candidate.number < 0);
   apart = tt;
 }
 
-module _ (book : Book) (chosen : List (List ℕ)) (n : ℕ) (turns : List Turn) (rule : Rule) (rule_is : slice_get book.rules n ≡ Some rule) (so_far : AreTurns book chosen n turns) where
+module _ (book : Book) (chosen : List (List ℕ)) (n : ℕ) (candidates : List Candidate) (rule : Rule) (rule_is : slice_get book.rules n ≡ Some rule) (so_far : AreCandidates book chosen n candidates) where
   lower : (m : ℕ) → m < n → m < n + 1
   lower m less = omega arith
 
-  all_lower : (ts : List Turn) → All (λ turn. turn.number < n) ts → All (λ turn. turn.number < n + 1) ts
+  all_lower : (ts : List Candidate) → All (λ candidate. candidate.number < n) ts → All (λ candidate. candidate.number < n + 1) ts
   all_lower ts all k d within = lower _ (all k d within)
 
-  pub turn_skipped : (Contains chosen rule.set → ⊥) → AreTurns book chosen (n + 1) turns
-  turn_skipped other = record {
-    are_turns = so_far.are_turns;
+  pub candidate_skipped : (Contains chosen rule.set → ⊥) → AreCandidates book chosen (n + 1) candidates
+  candidate_skipped other = record {
+    are_candidates = so_far.are_candidates;
     all = λ number r within is has.
-        below_more (λ k. (r : Rule) → slice_get book.rules k ≡ Some r → Contains chosen r.set → Contains turns (record { phase = r.phase; number = k })) n
+        below_more (λ k. (r : Rule) → slice_get book.rules k ≡ Some r → Contains chosen r.set → Contains candidates (record { phase = r.phase; number = k })) n
         (λ k less r is has. so_far.all k r less is has)
         (λ r is has. let P : Rule → Type 0 = λ x. Contains chosen x.set in absurd (other (subst P (Some-Some (sym is ∙ rule_is)) has)))
         number within r is has;
-    below = all_lower turns so_far.below;
+    below = all_lower candidates so_far.below;
     apart = so_far.apart;
   }
 
-  pub turn_more : (new : List Turn) → Contains chosen rule.set → new ≡ turns ++ record { phase = rule.phase; number = n } ∷ [] → AreTurns book chosen (n + 1) new
-  turn_more new has pushed =
-      let turn : Turn = record { phase = rule.phase; number = n } in
-      let P : List Turn → Type 0 = AreTurns book chosen (n + 1) in
+  pub candidate_more : (new : List Candidate) → Contains chosen rule.set → new ≡ candidates ++ record { phase = rule.phase; number = n } ∷ [] → AreCandidates book chosen (n + 1) new
+  candidate_more new has pushed =
+      let candidate : Candidate = record { phase = rule.phase; number = n } in
+      let P : List Candidate → Type 0 = AreCandidates book chosen (n + 1) in
       subst P (sym pushed) (record {
-        are_turns = All-append (IsTurn book chosen) turns (turn ∷ []) so_far.are_turns
-            (All-cons (IsTurn book chosen) turn [] (record { rule = rule; rule_is = rule_is; phase_is = refl; is_chosen = has }) (All-nil (IsTurn book chosen)));
+        are_candidates = All-append (IsCandidate book chosen) candidates (candidate ∷ []) so_far.are_candidates
+            (All-cons (IsCandidate book chosen) candidate [] (record { rule = rule; rule_is = rule_is; phase_is = refl; is_chosen = has }) (All-nil (IsCandidate book chosen)));
         all = λ number r within is has.
-            below_more (λ k. (r : Rule) → slice_get book.rules k ≡ Some r → Contains chosen r.set → Contains (turns ++ turn ∷ []) (record { phase = r.phase; number = k })) n
-            (λ k less r is has. Contains-append_left turns (turn ∷ []) _ (so_far.all k r less is has))
+            below_more (λ k. (r : Rule) → slice_get book.rules k ≡ Some r → Contains chosen r.set → Contains (candidates ++ candidate ∷ []) (record { phase = r.phase; number = k })) n
+            (λ k less r is has. Contains-append_left candidates (candidate ∷ []) _ (so_far.all k r less is has))
             (λ r is has.
-            let Q : Rule → Type 0 = λ x. Contains (turns ++ turn ∷ []) (record { phase = x.phase; number = n }) in
-            subst Q (Some-Some (sym rule_is ∙ is)) (Contains-append_right turns (turn ∷ []) turn (0, omega arith, refl)))
+            let Q : Rule → Type 0 = λ x. Contains (candidates ++ candidate ∷ []) (record { phase = x.phase; number = n }) in
+            subst Q (Some-Some (sym rule_is ∙ is)) (Contains-append_right candidates (candidate ∷ []) candidate (0, omega arith, refl)))
             number within r is has;
-        below = All-append (λ t. t.number < n + 1) turns (turn ∷ []) (all_lower turns so_far.below) (All-cons (λ t. t.number < n + 1) turn [] (omega arith) (All-nil (λ t. t.number < n + 1)));
-        apart = IsDistinct-push same_number_equiv turns turn so_far.apart (none_like n turns so_far.below);
+        below = All-append (λ t. t.number < n + 1) candidates (candidate ∷ []) (all_lower candidates so_far.below) (All-cons (λ t. t.number < n + 1) candidate [] (omega arith) (All-nil (λ t. t.number < n + 1)));
+        apart = IsDistinct-push same_number_equiv candidates candidate so_far.apart (none_like n candidates so_far.below);
       })
 
 -- The order of keys.
@@ -160,50 +160,50 @@ in_order (Unsafe x) (Unsafe y) m n h ne =
       | inr (same, less) ↦ inr (ap Unsafe (turned_same x y same), less)
     ]
 
--- Turns that were sorted.
+-- Candidates that were sorted.
 
-module _ (book : Book) (sets chosen : List (List ℕ)) (xs ys : List Turn) (listed : (name : List ℕ) → Contains chosen name ↔ (Contains sets name ⊎ (name ≡ codes "builtin")))
-    (turns : AreTurns book chosen (length book.rules) xs) (moved : IsPermutation xs ys) (sorted : IsSortedByKey key_of key_cmp ys) where
-  are_turns : All (IsTurn book chosen) ys
-  are_turns = All-permutation (IsTurn book chosen) xs ys moved turns.are_turns
+module _ (book : Book) (sets chosen : List (List ℕ)) (xs ys : List Candidate) (listed : (name : List ℕ) → Contains chosen name ↔ (Contains sets name ⊎ (name ≡ codes "builtin")))
+    (candidates : AreCandidates book chosen (length book.rules) xs) (moved : IsPermutation xs ys) (sorted : IsSortedByKey key_of key_cmp ys) where
+  are_candidates : All (IsCandidate book chosen) ys
+  are_candidates = All-permutation (IsCandidate book chosen) xs ys moved candidates.are_candidates
 
   apart : IsDistinct same_number ys
-  apart = IsDistinct-IsPermutation same_number (λ x y. nat_eq_equiv.symm x.number y.number) xs ys moved turns.apart
+  apart = IsDistinct-IsPermutation same_number (λ x y. nat_eq_equiv.symm x.number y.number) xs ys moved candidates.apart
 
   active : (number : ℕ) → Contains (numbers ys) number ↔ IsActive book sets number
   active number = (
     λ has.
         let place = at_from_Contains (numbers ys) number has in
-        let turn = number_at ys place.0 number place.1 in
-        let is = all_at (IsTurn book chosen) ys place.0 turn.0 are_turns turn.1 in
+        let candidate = number_at ys place.0 number place.1 in
+        let is = all_at (IsCandidate book chosen) ys place.0 candidate.0 are_candidates candidate.1 in
         let P : ℕ → Type 0 = IsActive book sets in
-        subst P turn.2 (record { rule = is.rule; rule_is = is.rule_is; active = (listed is.rule.set).0 is.is_chosen }),
+        subst P candidate.2 (record { rule = is.rule; rule_is = is.rule_is; active = (listed is.rule.set).0 is.is_chosen }),
     λ is.
-        let here = turns.all number is.rule (slice_get_within book.rules number is.rule is.rule_is) is.rule_is ((listed is.rule.set).1 is.active) in
+        let here = candidates.all number is.rule (slice_get_within book.rules number is.rule is.rule_is) is.rule_is ((listed is.rule.set).1 is.active) in
         let place = at_from_Contains ys _ (Contains-permutation xs ys _ moved here) in
         Contains_from_at (numbers ys) place.0 number (at_number ys place.0 _ place.1),
   )
 
-  numbers_differ : (i j : ℕ) (t u : Turn) → i < j → slice_get ys i ≡ Some t → slice_get ys j ≡ Some u → t.number ≢ u.number
+  numbers_differ : (i j : ℕ) (t u : Candidate) → i < j → slice_get ys i ≡ Some t → slice_get ys j ≡ Some u → t.number ≢ u.number
   numbers_differ i j t u less t_is u_is same =
       let differ : nat_eq (get_or ys i t).number (get_or ys j t).number ≡ false = apart_from_distinct same_number ys i j t apart less (slice_get_within ys j u u_is) in
       let unlike : nat_eq t.number u.number ≡ false =
-      ap (λ (x : Turn). nat_eq x.number u.number) (sym (get_or_from_slice_get ys i t t t_is)) ∙ ap (λ (x : Turn). nat_eq (get_or ys i t).number x.number) (sym (get_or_from_slice_get ys j u t u_is)) ∙ differ in
+      ap (λ (x : Candidate). nat_eq x.number u.number) (sym (get_or_from_slice_get ys i t t t_is)) ∙ ap (λ (x : Candidate). nat_eq (get_or ys i t).number x.number) (sym (get_or_from_slice_get ys j u t u_is)) ∙ differ in
       let alike : nat_eq t.number u.number ≡ true = eq-eqb t.number u.number same in
       cc
 
-  in_place : (i j : ℕ) (t u : Turn) → i < j → slice_get ys i ≡ Some t → slice_get ys j ≡ Some u → IsBefore t.phase u.phase ⊎ ((t.phase ≡ u.phase) × (t.number < u.number))
+  in_place : (i j : ℕ) (t u : Candidate) → i < j → slice_get ys i ≡ Some t → slice_get ys j ≡ Some u → IsBefore t.phase u.phase ⊎ ((t.phase ≡ u.phase) × (t.number < u.number))
   in_place i j t u less t_is u_is =
       let far : is_lt (key_cmp (key_of (get_or ys j t)) (key_of (get_or ys i t))) ≡ false =
       sorted_far (λ x y. is_lt (key_cmp (key_of x) (key_of y))) (ranks_by key_total key_of) ys sorted i j t (omega arith) (slice_get_within ys j u u_is) in
       let here : is_lt (key_cmp (key_of u) (key_of t)) ≡ false =
-      ap (λ (x : Turn). is_lt (key_cmp (key_of x) (key_of t))) (sym (get_or_from_slice_get ys j u t u_is)) ∙ ap (λ (x : Turn). is_lt (key_cmp (key_of (get_or ys j t)) (key_of x))) (sym (get_or_from_slice_get ys i t t t_is)) ∙ far in
+      ap (λ (x : Candidate). is_lt (key_cmp (key_of x) (key_of t))) (sym (get_or_from_slice_get ys j u t u_is)) ∙ ap (λ (x : Candidate). is_lt (key_cmp (key_of (get_or ys j t)) (key_of x))) (sym (get_or_from_slice_get ys i t t t_is)) ∙ far in
       in_order t.phase u.phase t.number u.number here (numbers_differ i j t u less t_is u_is)
 
-  tried_before : (i j : ℕ) (t u : Turn) → i < j → slice_get ys i ≡ Some t → slice_get ys j ≡ Some u → IsTriedBefore book t.number u.number
+  tried_before : (i j : ℕ) (t u : Candidate) → i < j → slice_get ys i ≡ Some t → slice_get ys j ≡ Some u → IsTriedBefore book t.number u.number
   tried_before i j t u less t_is u_is =
-      let a = all_at (IsTurn book chosen) ys i t are_turns t_is in
-      let b = all_at (IsTurn book chosen) ys j u are_turns u_is in
+      let a = all_at (IsCandidate book chosen) ys i t are_candidates t_is in
+      let b = all_at (IsCandidate book chosen) ys j u are_candidates u_is in
       let P : Phase → Phase → Type 0 = λ p q. IsBefore p q ⊎ ((p ≡ q) × (t.number < u.number)) in
       record { rule = a.rule; other = b.rule; rule_is = a.rule_is; other_is = b.rule_is; before = subst₂ P a.phase_is b.phase_is (in_place i j t u less t_is u_is) }
 

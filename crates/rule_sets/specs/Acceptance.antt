@@ -1,19 +1,11 @@
--- What the tests of a rule ask, each by itself.
+-- What a rule that a book accepts has, each part by itself.
 use Rattle.std.specs.Prelude.{◌≡◌, ℕ, suc, ◌≤◌, List, length, Some, All}
 use Rattle.lf_definitions.specs.Syntax.{LfType}
 use Rattle.lf_definitions.specs.Occurrence.{Premises}
 use Rattle.lf_definitions.specs.Signatures.{LfSignature}
-use Rattle.rule_sets.specs.declared.rule.Builder.{Builder}
-use Rattle.rule_sets.specs.declared.rule.Builder.TheVariants.{Assumption, Hyps}
 use Rattle.rule_sets.specs.declared.rule.Rule.{Rule}
 use Rattle.rule_sets.specs.Books.{Book}
 use Rattle.rule_sets.specs.Refusals.{IsTaken, IsFull, IsRuleOver, IsAtomic, argument_at}
-
--- The builder is none of the built-in ones.
-abbrev pub IsChosen : Builder → Type 0
-IsChosen Assumption = ⊥
-IsChosen Hyps = ⊥
-IsChosen _ = Unit {0}
 
 -- The book has room for the rule, under its name.
 pub record IsFree (book : Book) (rule : Rule) : Type 0 where
