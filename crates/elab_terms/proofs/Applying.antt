@@ -32,7 +32,7 @@ use Rattle.elab_terms.specs.KnownTypes.{Founded}
 use Rattle.elab_terms.specs.Domains.{left_of}
 use Rattle.elab_terms.specs.Terms.{ReadsTerm, ReadsArguments, RefusesTerm, RefusesArguments}
 use Rattle.elab_terms.specs.declared.elab_fault.ElabFault.{ElabFault}
-use Rattle.elab_terms.proofs.EtaTyping.{pis-append}
+use Rattle.typing_laws.proofs.Binders.{pis-append}
 use Rattle.elab_terms.proofs.Reading.{seen_types, ReadsArguments-more, RefusesArguments-at, split_at, take_next, shaped_take, take-rename_context, arguments_typed}
 
 types_of-take : (types : List Ty) (i : ℕ) → types_of (take i types) ≡ take i (types_of types)

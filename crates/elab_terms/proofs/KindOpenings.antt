@@ -11,9 +11,8 @@ use Rattle.elab_terms.specs.ReadBinders.{binding_place, domain_of, binding_name,
 use Rattle.elab_terms.specs.KnownTypes.{Founded, HaveTypes, KnownAt}
 use Rattle.elab_terms.specs.Types.{ReadsType, RefusesType, ReadsKind, reads_kind_binder, RefusesKind, refuses_kind_domain, refuses_kind_rest}
 use Rattle.elab_terms.specs.declared.elab_fault.ElabFault.{ElabFault}
-use Rattle.elab_terms.proofs.EtaTyping.{Founded-with_variable}
 use Rattle.elab_terms.proofs.Openings.{is_binder, bind_cons}
-use Rattle.elab_terms.proofs.ReadTyped.{Formed-ReadsType}
+use Rattle.elab_terms.proofs.ReadTyped.{Founded-with_variable, Formed-ReadsType}
 use Rattle.elab_terms.proofs.Reading.{have_types_under}
 
 -- none is read yet

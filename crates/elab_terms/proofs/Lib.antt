@@ -1,6 +1,5 @@
 pub mod SignatureNames
 pub mod TokenPlaces
-pub mod EtaTyping
 pub mod ReadTyped
 pub mod ReadOnce
 pub mod FaultCases

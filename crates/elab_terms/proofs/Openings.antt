@@ -14,8 +14,7 @@ use Rattle.elab_terms.specs.KnownTypes.{Founded, HaveTypes, KnownAt}
 use Rattle.elab_terms.specs.Types.{IsBinder, pi_binder, arrow_binder, ReadsType, reads_binder, RefusesType, refuses_binder, refuses_domain, refuses_rest}
 use Rattle.elab_terms.specs.declared.elab_fault.ElabFault.{ElabFault}
 use Rattle.elab_terms.specs.declared.elab_fault.ElabFault.TheVariants.{TooMany}
-use Rattle.elab_terms.proofs.EtaTyping.{Founded-with_variable}
-use Rattle.elab_terms.proofs.ReadTyped.{Formed-ReadsType}
+use Rattle.elab_terms.proofs.ReadTyped.{Founded-with_variable, Formed-ReadsType}
 use Rattle.elab_terms.proofs.Reading.{have_types_under}
 
 pub classifier_size-bind : (bindings : List Binding) (last : Classifier) → classifier_size (bind bindings last) ≡ bindings_size bindings + classifier_size last

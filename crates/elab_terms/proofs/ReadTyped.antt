@@ -1,26 +1,30 @@
 -- What is read is typed.
-use Rattle.std.proofs.Common.{◌≡◌, ℕ, zero, suc, ◌+◌, Option, Some, List, [], ◌∷◌, ◌++◌, refl, sym, ap, ap₂, ◌∙◌, subst, arith}
-use Rattle.lf_definitions.specs.Syntax.{LfHead, bound, constant, metavariable, LfTerm, lam, at, Spine, arg, SimpleType, shape_of, LfType, pi, family, pis, Context, shape_size}
-use Rattle.lf_definitions.specs.Renaming.{next, Renaming, lifted, rename, rename_spine, rename_type}
-use Rattle.lf_definitions.specs.Shaping.{Scope, under, Shaped, shaped_lam, shaped_at, ShapedSpine, shaped_none, shaped_arg, ShapedType, shaped_pi, shaped_family}
+use Rattle.std.proofs.Common.{ℕ, suc, ◌+◌, Option, List, [], ◌∷◌, ◌++◌, sym, subst, arith}
+use Rattle.lf_definitions.specs.Syntax.{LfTerm, Spine, SimpleType, shape_of, LfType, family, pis, Context, shape_size}
+use Rattle.lf_definitions.specs.Shaping.{Scope, under, Shaped, ShapedType}
 use Rattle.lf_definitions.specs.Substitution.{Replacement}
-use Rattle.lf_definitions.specs.Typing.{Typing, Typed, typed_lam, TypedSpine, typed_none, typed_arg, Kinds, Formed, formed_pi, formed_family, FormedContext, formed_empty, formed_entry, shapes_of, shapes_of_kinds}
+use Rattle.lf_definitions.specs.Typing.{Typing, with_variable, Typed, typed_lam, TypedSpine, typed_none, typed_arg, Kinds, Formed, formed_pi, formed_family, FormedContext, formed_empty, formed_entry, shapes_of, shapes_of_kinds}
 use Rattle.lf_definitions.specs.Signatures.{LfSignature, kinds_in, typing_in, FormedSignature}
-use Rattle.lf_definitions.specs.ShapedGoals.{ShapedContext, shaped_empty, shaped_entry, ShapedTyping, without_variables}
-use Rattle.lf_definitions.specs.Laws.{variables}
-use Rattle.lf_definitions.proofs.Renaming.{extended-next, each_head}
+use Rattle.lf_definitions.specs.ShapedGoals.{ShapedContext, shaped_empty, shaped_entry}
 use Rattle.lf_definitions.specs.Replacements.{Goes}
 use Rattle.lf_definitions.proofs.Totality.{Goes-more, Goes-stays, Goes-push}
 use Rattle.lf_definitions.proofs.Types.{shape_of-SubstitutedType, ShapedType-SubstitutedType}
 use Rattle.lf_definitions.proofs.Typing.{ShapedType-Formed, Shaped-Typed, shaped_argument, shaped_result}
-use Rattle.lf_definitions.proofs.ShapedGoals.{ShapedTyping-head, ShapedTyping-family, ShapedContext-pis, shapes_of-under, ShapedSignature-FormedSignature, ShapedTyping-typing_in}
-use Rattle.lf_kernel.proofs.Openings.{no_goals_shaped}
+use Rattle.lf_definitions.proofs.ShapedGoals.{ShapedTyping-with_variable, ShapedTyping-head, ShapedTyping-family, ShapedContext-pis, shapes_of-under, ShapedSignature-FormedSignature, ShapedTyping-typing_in}
+use Rattle.typing_laws.proofs.ClosedTypes.{closed_globals, no_goals}
+use Rattle.typing_laws.proofs.EtaTyping.{expansions_have_their_types}
 use Rattle.file_trees.specs.Trees.{Tree, Classifier}
 use Rattle.elab_terms.specs.Names.{Text, Bound}
 use Rattle.elab_terms.specs.Terms.{ReadsTerm, reads_abstraction, reads_application, ReadsArguments, reads_none, reads_argument}
 use Rattle.elab_terms.specs.Types.{ReadsType, reads_binder, reads_family, ReadsKind, reads_type_word, reads_kind_binder}
 use Rattle.elab_terms.specs.KnownTypes.{Founded}
-use Rattle.elab_terms.proofs.EtaTyping.{Founded-with_variable, expanded_typed}
+
+pub Founded-with_variable : (kinds : Kinds) (Γ : Typing) (a : LfType) → Founded kinds Γ → ShapedType (shapes_of_kinds kinds) (shapes_of Γ) a → Founded kinds (with_variable a Γ)
+Founded-with_variable kinds Γ a good p = record {
+  shaped = ShapedTyping-with_variable kinds Γ a good.shaped p;
+  constants = good.constants;
+  metavariables = good.metavariables;
+}
 
 shaped_first : {kinds : ℕ → Option SimpleType} {Γ : Scope} (first missing : Context) → ShapedContext kinds Γ (first ++ missing) → ShapedContext kinds Γ first
 shaped_first [] missing p = shaped_empty
@@ -34,7 +38,7 @@ mutual
       (subst (λ Δ. ShapedType (shapes_of_kinds kinds) Δ c) (sym (shapes_of-under Γ a)) (shaped_result shaped)))
   Typed-ReadsTerm (reads_application binders Γ tree span arguments h first missing f args ts wanted is resolved known read result) kinds good shaped =
       let whole = ShapedContext-pis (first ++ missing) (family f args) (ShapedTyping-head kinds Γ good.shaped h (pis (first ++ missing) (family f args)) known) in
-      expanded_typed kinds Γ good h first missing f args ts wanted known
+      expansions_have_their_types kinds Γ good.shaped h first missing f args ts wanted known
       (TypedSpine-ReadsArguments read kinds good (shapes_of Γ) 0 (Goes-stays 0 (shapes_of Γ)) (shaped_first first missing whole)) result
 
   pub TypedSpine-ReadsArguments : {text : Text} {sig : LfSignature} {binders : Bound} {Γ : Typing} {σ : Replacement} {trees : List Tree} {domains : Context} {ts : Spine} →
@@ -65,40 +69,8 @@ FormedKind-ReadsKind {sig = sig} (reads_kind_binder binders Γ place whole domai
     let formed = Formed-ReadsType read good in
     formed_entry formed (FormedKind-ReadsKind more (Founded-with_variable (kinds_in sig) Γ a good (ShapedType-Formed formed)))
 
--- A renaming that keeps the heads that occur changes nothing.
-abbrev Fixes : Renaming → Scope → Type 0
-Fixes ξ Γ = (h : LfHead) (s : SimpleType) → Γ h ≡ Some s → ξ h ≡ h
-
-Fixes-lifted : (ξ : Renaming) (Γ : Scope) (a : SimpleType) → Fixes ξ Γ → Fixes (lifted ξ) (under a Γ)
-Fixes-lifted ξ Γ a fixes =
-    each_head (λ h. (s : SimpleType) → under a Γ h ≡ Some s → lifted ξ h ≡ h) (λ s e. refl)
-    (λ h s e. extended-next (bound zero) (λ k. next (ξ k)) h ∙ ap next (fixes h s (sym (extended-next (Some a) Γ h) ∙ e)))
-
-mutual
-  fixed : {Γ : Scope} {t : LfTerm} {s : SimpleType} → Shaped Γ t s → (ξ : Renaming) → Fixes ξ Γ → rename ξ t ≡ t
-  fixed (shaped_lam {Γ = Γ} {a = a} p) ξ fixes = ap lam (fixed p (lifted ξ) (Fixes-lifted ξ Γ a fixes))
-  fixed (shaped_at {h = h} {ts = ts} s e ps) ξ fixes = ap (λ k. at k (rename_spine ξ ts)) (fixes h s e) ∙ ap (at h) (fixed_spine ps ξ fixes)
-
-  fixed_spine : {Γ : Scope} {ts : Spine} {s : SimpleType} → ShapedSpine Γ ts s → (ξ : Renaming) → Fixes ξ Γ → rename_spine ξ ts ≡ ts
-  fixed_spine shaped_none ξ fixes = refl
-  fixed_spine (shaped_arg p ps) ξ fixes = ap₂ arg (fixed p ξ fixes) (fixed_spine ps ξ fixes)
-
-fixed_type : {kinds : ℕ → Option SimpleType} {Γ : Scope} {a : LfType} → ShapedType kinds Γ a → (ξ : Renaming) → Fixes ξ Γ → rename_type ξ a ≡ a
-fixed_type (shaped_pi {Γ = Γ} {a = a} p q) ξ fixes = ap₂ pi (fixed_type p ξ fixes) (fixed_type q (lifted ξ) (Fixes-lifted ξ Γ (shape_of a) fixes))
-fixed_type (shaped_family {f = f} s e ps) ξ fixes = ap (family f) (fixed_spine ps ξ fixes)
-
 -- Over a well-formed signature all is so.
 pub Founded-typing_in : (sig : LfSignature) → FormedSignature sig → Founded (kinds_in sig) (typing_in sig [] [])
-Founded-typing_in sig formed = record {
-  shaped = shaped;
-  constants = λ c a e v. fixed_type (shaped.of_constants c a e) (variables v) (keeps v);
-  metavariables = λ g a e v. fixed_type (shaped.of_metavariables g a e) (variables v) (keeps v);
-}
-  where
-    shaped : ShapedTyping (kinds_in sig) (typing_in sig [] [])
-    shaped = ShapedTyping-typing_in sig [] [] (ShapedSignature-FormedSignature sig formed) (no_goals_shaped sig [] refl) shaped_empty
-
-    keeps : (v : ℕ → ℕ) → Fixes (variables v) (without_variables (shapes_of (typing_in sig [] [])))
-    keeps v (bound n) s e = absurd cc
-    keeps v (constant c) s e = refl
-    keeps v (metavariable g) s e = refl
+Founded-typing_in sig formed =
+    let shaped = ShapedTyping-typing_in sig [] [] (ShapedSignature-FormedSignature sig formed) (no_goals sig) shaped_empty in
+    let closed = closed_globals (kinds_in sig) (typing_in sig [] []) shaped in record { shaped = shaped; constants = closed.0; metavariables = closed.1 }

@@ -33,8 +33,7 @@ use Rattle.elab_terms.specs.KnownTypes.{Founded, HaveTypes, typing_of, KnownAt, 
 use Rattle.elab_terms.specs.Terms.{expanded, ReadsTerm, reads_abstraction, reads_application, ReadsArguments, reads_none, reads_argument, RefusesTerm, refuses_abstraction, refuses_body, refuses_redex, refuses_result, RefusesArguments, refuses_here, refuses_later}
 use Rattle.elab_terms.specs.declared.elab_fault.ElabFault.{ElabFault}
 use Rattle.elab_terms.specs.declared.elab_fault.ElabFault.TheVariants.{Taken, TooMany, Unknown, Redex, IllTyped, BadRule, NoMemory}
-use Rattle.elab_terms.proofs.EtaTyping.{Founded-with_variable}
-use Rattle.elab_terms.proofs.ReadTyped.{TypedSpine-ReadsArguments}
+use Rattle.elab_terms.proofs.ReadTyped.{Founded-with_variable, TypedSpine-ReadsArguments}
 
 -- binders as they are seen from where the arguments stand
 abbrev pub seen_types : ℕ → List Ty → Context

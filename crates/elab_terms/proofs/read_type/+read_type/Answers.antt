@@ -10,7 +10,7 @@ use Rattle.elab_terms.specs.KnownTypes.{KnownAt, typing_of}
 use Rattle.elab_terms.specs.FileTexts.{text_in}
 use Rattle.elab_terms.specs.Types.{ReadsType, RefusesType, refuses_word}
 use Rattle.elab_terms.specs.declared.elab_fault.ElabFault.TheVariants.{TooMany, Unknown}
-use Rattle.elab_terms.proofs.EtaTyping.{pis-append}
+use Rattle.typing_laws.proofs.Binders.{pis-append}
 use Rattle.elab_terms.proofs.Lasts.{last_falls, binders_fall, bindings_of-drop, length-bindings_of, same_binding, domain_falls}
 use Rattle.elab_terms.proofs.Openings.{opens_none, too_many, domain_refused, opens_more, past_all}
 use Rattle.elab_terms.proofs.Reading.{IsRefusal-map}
