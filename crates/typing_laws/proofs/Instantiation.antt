@@ -1,13 +1,11 @@
 -- An assignment that keeps the types of goals goes from one typing to another, in every context.
-use Rattle.std.proofs.Common.{◌≡◌, ℕ, zero, suc, ◌+◌, ◌<◌, Bool, true, false, if◌then◌else◌, nat_eq, Option, Some, None, option_map, List, [], ◌∷◌, length, All, refl, sym, ap, ◌∙◌, subst, arith}
-use Rattle.std.proofs.lemmas.List.Elements.{All-head, All-tail}
-use Rattle.std.proofs.lemmas.Bool.{eqb-true}
+use Rattle.std.proofs.Common.{◌≡◌, ℕ, zero, suc, ◌<◌, Option, Some, None, option_map, List, [], length, refl, sym, ap, ◌∙◌, subst}
 use Rattle.lf_definitions.specs.Syntax.{bound, constant, metavariable, LfTerm, shape_of, shape_size, LfType, Context, atomic}
 use Rattle.lf_definitions.specs.Renaming.{next, next_by}
 use Rattle.lf_definitions.specs.Shaping.{ShapedType}
 use Rattle.lf_definitions.specs.Substitution.{Image, stays, becomes, rename_image, Replacement, up, up_by}
 use Rattle.lf_definitions.specs.Instantiation.{Assignment, assigned, instantiating, InstantiatedType, InstantiatedContext, InstantiatedGoal}
-use Rattle.lf_definitions.specs.Typing.{Typing, Typed, Kinds, LfGoal, goal_type, type_of_metavariable, shapes_of}
+use Rattle.lf_definitions.specs.Typing.{Typing, Typed, Kinds, LfGoal, type_of_metavariable, shapes_of}
 use Rattle.lf_definitions.specs.Signatures.{LfSignature, kinds_in, typing_in}
 use Rattle.lf_definitions.specs.GoalLists.{FormedGoal}
 use Rattle.lf_definitions.specs.ShapedGoals.{ShapedContext, shaped_empty, kind_shapes_in, ShapedContextIn, ShapedTyping}
@@ -21,40 +19,13 @@ use Rattle.typing_laws.specs.TypedReplacements.{HasTypeOf, typed_stays, typed_be
 use Rattle.typing_laws.specs.InstantiationLaws.{KeepsGoal, TakesGoals, InstantiationsKeepTypes, InstantiationsHaveResults, InstantiationsKeepWhatIsFormed}
 use Rattle.typing_laws.proofs.Fixing.{Fixes, fixed, Agrees, agreed_type, kept_type}
 use Rattle.typing_laws.proofs.Binders.{total_context}
+use Rattle.typing_laws.proofs.FoundGoals.{goals_bound, found}
 use Rattle.typing_laws.proofs.TypedReplacements.{Goes-GoesTyped}
 use Rattle.typing_laws.proofs.ClosedTypes.{closed_scope, Keeps-without_variables, KeepsKinds-constants, ShapedGoal-FormedGoal}
 use Rattle.typing_laws.proofs.Placing.{GoesTyped-up_by, shaped_placed}
 use Rattle.typing_laws.proofs.Laws.{replacements_keep_types, replacements_keep_what_is_formed}
 
--- a bound on the shapes of the types of goals
-abbrev goals_bound : List LfGoal → ℕ
-goals_bound [] = 0
-goals_bound (g ∷ goals) = suc (shape_size (shape_of (goal_type g))) + goals_bound goals
-
--- the goal of a metavariable
-abbrev Found : (LfGoal → Type 0) → List LfGoal → ℕ → LfType → Type 0
-Found P goals n a = (g : LfGoal) × (g.id ≡ n) × (goal_type g ≡ a) × P g × shape_size (shape_of a) < goals_bound goals
-
-found : (P : LfGoal → Type 0) (goals : List LfGoal) → All P goals → (n : ℕ) (a : LfType) → type_of_metavariable goals n ≡ Some a → Found P goals n a
-found P [] all n a e = absurd cc
-found P (g ∷ goals) all n a e = at_test (nat_eq g.id n) refl e (λ e. found P goals (All-tail P g goals all) n a e)
-  where
-    smaller : {m k : ℕ} → m ≡ k → m < suc k + goals_bound goals
-    smaller e = omega (arith, e)
-
-    later : {m : ℕ} → m < goals_bound goals → m < suc (shape_size (shape_of (goal_type g))) + goals_bound goals
-    later less = omega (arith, less)
-
-    at_test : (b : Bool) → nat_eq g.id n ≡ b → (if b then Some (goal_type g) else type_of_metavariable goals n) ≡ Some a →
-        (type_of_metavariable goals n ≡ Some a → Found P goals n a) → Found P (g ∷ goals) n a
-    at_test true is e rest =
-        let same : goal_type g ≡ a = cc in
-        (g, eqb-true g.id n is, same, All-head P g goals all, smaller (ap (λ b. shape_size (shape_of b)) (sym same)))
-    at_test false is e rest =
-        let r = rest e in
-        (r.0, r.1, r.2, r.3, later r.4)
-
--- A goes-typed replacement may be exchanged for one that does the same to the heads that occur.
+-- A replacement may be exchanged for one that does the same to the heads that occur.
 GoesTyped-agreed : (kinds : Kinds) (p : ℕ) (Γ Δ : Typing) (σ ρ : Replacement) → ShapedTyping kinds Γ → Agrees (shapes_of Γ) σ ρ → GoesTyped p Γ Δ σ → GoesTyped p Γ Δ ρ
 GoesTyped-agreed kinds p Γ Δ σ ρ shaped agrees goes h a e =
     let g = goes h a e in

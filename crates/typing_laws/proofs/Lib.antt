@@ -7,5 +7,7 @@ pub mod Placing
 pub mod Laws
 pub mod Occurring
 pub mod ClosedTypes
+pub mod FoundGoals
 pub mod Instantiation
+pub mod GoalLists
 pub mod EtaTyping

@@ -4,6 +4,7 @@
 
 ghost use Rattle.typing_laws.specs.ClosedTypes.{ShapedTypingsAreClosed, SignaturesAreClosed, SignaturesStay, FormedGoalsAreClosed, TypingsAreClosed};
 ghost use Rattle.typing_laws.specs.EtaLaws.{EtaFormsHaveTheirTypes, OwnVariablesAreTyped, ExpansionsHaveTheirTypes};
+ghost use Rattle.typing_laws.specs.GoalLaws.{GoalsAreTheirTypes, GoalsGrow, GoalsThatStayAreKept, AssignedGoalsAreKept};
 ghost use Rattle.typing_laws.specs.InstantiationLaws.{InstantiationsKeepTypes, InstantiationsHaveResults, InstantiationsKeepWhatIsFormed};
 ghost use Rattle.typing_laws.specs.Laws.{ReplacementsKeepTypes, TypedTermsHaveResults, ReplacementsKeepWhatIsFormed, SubstitutionsKeepTypes, SubstitutionsKeepWhatIsFormed};
 
@@ -85,4 +86,24 @@ pub fn own_variables_are_typed()
 /// A head whose first arguments have their types, made eta-long, has the type of what it still takes.
 pub fn expansions_have_their_types()
     ensures { ExpansionsHaveTheirTypes }
+{}
+
+/// A goal is well formed where its type is, with no variables.
+pub fn goals_are_their_types()
+    ensures { GoalsAreTheirTypes }
+{}
+
+/// What is typed or well formed among goals is so among more goals, if their numbers differ.
+pub fn goals_grow()
+    ensures { GoalsGrow }
+{}
+
+/// An assignment keeps a goal that it leaves, where the goal's instance is one of the others.
+pub fn goals_that_stay_are_kept()
+    ensures { GoalsThatStayAreKept }
+{}
+
+/// An assignment keeps a goal for which it puts a body that is typed at the goal's instance.
+pub fn assigned_goals_are_kept()
+    ensures { AssignedGoalsAreKept }
 {}
