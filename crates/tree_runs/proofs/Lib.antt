@@ -1,0 +1,4 @@
+pub mod Lists
+pub mod Journals
+pub mod Shapes
+pub mod Marks

@@ -1,0 +1,7 @@
+pub mod Shapes
+pub mod Marks
+pub mod Addresses
+pub mod States
+pub mod Best
+pub mod Runs
+pub mod Laws
