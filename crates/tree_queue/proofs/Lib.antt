@@ -1,0 +1,5 @@
+mod Sifts
+pub mod EntryOrder
+pub mod AddressLemmas
+mod Views
+mod Drops
