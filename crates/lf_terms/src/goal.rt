@@ -4,11 +4,11 @@ ghost use Rattle.std.specs.Prelude.{◌≡◌, ◌↔◌, ◌++◌, [], ◌∷�
 ghost use Rattle.lf_definitions.specs.ShapedGoals.{shapes_of_goals};
 ghost use Rattle.lf_terms.specs.Targets.{goal_of};
 
-use basics::NoMemory;
 use crate::same::{same_atom, same_tys};
 use crate::shape::{MetaShape, MetaShapes};
 use crate::shape_of::shapes_of;
 use crate::ty::{Atom, Ctx};
+use basics::NoMemory;
 use std::alloc::Global;
 use std::marker::Model;
 

@@ -7,7 +7,6 @@ pub mod Candidates
 pub mod Sets
 pub mod Over
 pub mod Orders
-pub mod Atoms
 pub mod BookParts
 pub mod Decisions
 mod FittingRules
