@@ -34,7 +34,7 @@ SignaturesAreClosed =
     × All HasNoMetavariable (constant_types sig)
     × ((f : ℕ) (kind : LfKind) → kinds_in sig f ≡ Some kind → (g : ℕ) → OccursInContext (metavariable g) kind → ⊥)
 
--- A replacement that keeps constants leaves them as they are, and so does a renaming that keeps constants.
+-- A replacement that keeps constants leaves the types and kinds of a well-formed signature as they are, and so does a renaming that keeps constants.
 abbrev pub SignaturesStay : Type 0
 SignaturesStay =
     (sig : LfSignature) → FormedSignature sig →
@@ -46,6 +46,6 @@ SignaturesStay =
 abbrev pub FormedGoalsAreClosed : Type 0
 FormedGoalsAreClosed = (sig : LfSignature) (goals : List LfGoal) → FormedGoals sig goals → All (λ g. Closed (goal_type g)) goals × ShapedGoals sig goals
 
--- Over them, constants and metavariables have closed types in every context.
+-- Over a well-formed signature and well-formed goals, constants and metavariables have closed types in every context.
 abbrev pub TypingsAreClosed : Type 0
 TypingsAreClosed = (sig : LfSignature) (goals : List LfGoal) → FormedSignature sig → FormedGoals sig goals → (ctx : List LfType) → HasClosedGlobals (typing_in sig goals ctx)

@@ -8,7 +8,8 @@ use Rattle.lf_definitions.specs.Signatures.{LfSignature, kinds_in, typing_in}
 use Rattle.lf_definitions.specs.GoalLists.{FormedGoal}
 use Rattle.lf_definitions.specs.ShapedGoals.{ShapedTypeIn, ShapedContextIn, ShapedSignature, ShapedGoals}
 
--- An assignment keeps a goal's type where the type can be instantiated, and among other goals what is put for the goal is of that type, or the goal stays, as one of them with that type.
+-- An assignment keeps a goal where the goal's type has an instance, and among the other goals what is put for the goal has that type; a goal for which nothing is put
+-- is one of them, with that type.
 abbrev pub KeepsGoal : LfSignature → List LfGoal → Assignment → LfGoal → Type 0
 KeepsGoal sig others σ g =
     (c : LfType) × InstantiatedType σ (goal_type g) c
@@ -22,7 +23,7 @@ pub record TakesGoals (sig : LfSignature) (goals others : List LfGoal) (σ : Ass
   pub of_others : ShapedGoals sig others
   pub keeps : All (KeepsGoal sig others σ) goals
 
--- Then instantiation keeps types in every context, and so do arguments.
+-- Then instantiation keeps the types of terms and of arguments, in every context.
 abbrev pub InstantiationsKeepTypes : Type 0
 InstantiationsKeepTypes =
     (sig : LfSignature) (goals others : List LfGoal) (σ : Assignment) → TakesGoals sig goals others σ →
@@ -31,7 +32,7 @@ InstantiationsKeepTypes =
     × ((ts vs : Spine) (bs cs : Context) → ShapedContextIn sig goals ctx bs → TypedSpine (typing_in sig goals ctx) stays ts bs → InstantiatedContext σ bs cs → InstantiatedSpine σ ts vs →
     TypedSpine (typing_in sig others placed) stays vs cs)
 
--- It has results there.
+-- Contexts, types and typed terms have results there.
 abbrev pub InstantiationsHaveResults : Type 0
 InstantiationsHaveResults =
     (sig : LfSignature) (goals others : List LfGoal) (σ : Assignment) → TakesGoals sig goals others σ →

@@ -16,13 +16,13 @@ ReplacementsKeepTypes =
     × ((ts vs : Spine) (bs cs : Context) → ShapedContext (shapes_of_kinds kinds) (shapes_of Γ) bs → TypedSpine Γ stays ts bs → SubstitutedContext σ bs cs → SubstitutedSpine σ ts vs →
     TypedSpine Δ stays vs cs)
 
--- A typed term and its type have results.
+-- A typed term and its type have results under a replacement that goes from one typing to another.
 abbrev pub TypedTermsHaveResults : Type 0
 TypedTermsHaveResults =
     (kinds : Kinds) (Γ Δ : Typing) (p : ℕ) (σ : Replacement) → GoesTyped p Γ Δ σ → (t : LfTerm) (a : LfType) → IsShapedIn kinds Γ a → Typed Γ t a →
     ((r : LfTerm) × Substituted σ t r) × ((c : LfType) × SubstitutedType σ a c)
 
--- Where it leaves the kinds as they are, it keeps well-formed types and contexts.
+-- A replacement that goes from one typing to another, and leaves the kinds as they are, keeps well-formed types and contexts.
 abbrev pub ReplacementsKeepWhatIsFormed : Type 0
 ReplacementsKeepWhatIsFormed =
     (kinds : Kinds) (Γ Δ : Typing) (p : ℕ) (σ : Replacement) → ShapedTyping kinds Γ → ShapedTyping kinds Δ → GoesTyped p Γ Δ σ → KeepsKinds kinds σ →
@@ -37,7 +37,7 @@ pub record IsPut (kinds : Kinds) (Γ : Typing) (inner : Context) (sub : Spine) (
   pub typed : TypedSpine Γ stays sub inner
   pub placing : SubstitutedContext (push_all sub stays) local placed
 
--- Then terms under these binders keep their types, and so do arguments.
+-- Terms under these binders keep their types, and so do arguments.
 abbrev pub SubstitutionsKeepTypes : Type 0
 SubstitutionsKeepTypes =
     (kinds : Kinds) (Γ : Typing) (inner local placed : Context) (sub : Spine) → IsPut kinds Γ inner sub local placed →
@@ -47,7 +47,7 @@ SubstitutionsKeepTypes =
     TypedSpine (with_context local (with_context inner Γ)) stays ts bs → SubstitutedContext (image sub (length local)) bs cs → SubstitutesSpine sub (length local) ts vs →
     TypedSpine (with_context placed Γ) stays vs cs)
 
--- So do well-formed types and contexts.
+-- Types and contexts that are well formed under these binders stay so.
 abbrev pub SubstitutionsKeepWhatIsFormed : Type 0
 SubstitutionsKeepWhatIsFormed =
     (kinds : Kinds) (Γ : Typing) (inner local placed : Context) (sub : Spine) → IsPut kinds Γ inner sub local placed →
