@@ -11,7 +11,7 @@ use Rattle.lf_definitions.proofs.Telescopes.{arity-arrows, under_all-next_by_len
 use Rattle.lf_definitions.proofs.Typing.{shape_of-pis}
 use Rattle.lf_terms.specs.Putting.{putting, Puts, ArgsShaped}
 use Rattle.lf_terms.proofs.Expansions.{joined-no_args}
-use Rattle.elab_terms.specs.Terms.{expanded}
+use Rattle.typing_laws.specs.EtaLaws.{expanded}
 
 pub length-shapes_of_types : (binders : Context) → length (shapes_of_types binders) ≡ length binders
 length-shapes_of_types [] = refl

@@ -11,7 +11,8 @@ use Rattle.file_trees.specs.declared.span.Span.{Span}
 use Rattle.file_trees.specs.Trees.{Tree, leaf, abstraction, Classifier}
 use Rattle.file_trees.specs.Trees as trees
 use Rattle.elab_terms.specs.Names.{Text, text_at, binder_name, Bound, named_head}
-use Rattle.elab_terms.specs.Terms.{expanded, ReadsTerm, reads_abstraction, reads_application, ReadsArguments, reads_none, reads_argument}
+use Rattle.typing_laws.specs.EtaLaws.{expanded}
+use Rattle.elab_terms.specs.Terms.{ReadsTerm, reads_abstraction, reads_application, ReadsArguments, reads_none, reads_argument}
 use Rattle.elab_terms.specs.Types.{IsBinder, pi_binder, arrow_binder, ReadsType, reads_binder, reads_family, ReadsKind, reads_type_word, reads_kind_binder}
 
 -- A tree has one head and one list of arguments.

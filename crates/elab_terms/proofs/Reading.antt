@@ -30,7 +30,8 @@ use Rattle.elab_terms.specs.Applied.{base_of, arguments_of}
 use Rattle.elab_terms.specs.Names.{Text, text_at, binder_name, Bound, variable_of, head_or}
 use Rattle.elab_terms.specs.Names as names
 use Rattle.elab_terms.specs.KnownTypes.{Founded, HaveTypes, typing_of, KnownAt, IsWanted, IsRefusal}
-use Rattle.elab_terms.specs.Terms.{expanded, ReadsTerm, reads_abstraction, reads_application, ReadsArguments, reads_none, reads_argument, RefusesTerm, refuses_abstraction, refuses_body, refuses_redex, refuses_result, RefusesArguments, refuses_here, refuses_later}
+use Rattle.typing_laws.specs.EtaLaws.{expanded}
+use Rattle.elab_terms.specs.Terms.{ReadsTerm, reads_abstraction, reads_application, ReadsArguments, reads_none, reads_argument, RefusesTerm, refuses_abstraction, refuses_body, refuses_redex, refuses_result, RefusesArguments, refuses_here, refuses_later}
 use Rattle.elab_terms.specs.declared.elab_fault.ElabFault.{ElabFault}
 use Rattle.elab_terms.specs.declared.elab_fault.ElabFault.TheVariants.{Taken, TooMany, Unknown, Redex, IllTyped, BadRule, NoMemory}
 use Rattle.elab_terms.proofs.ReadTyped.{Founded-with_variable, TypedSpine-ReadsArguments}

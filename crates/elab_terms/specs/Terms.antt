@@ -6,6 +6,7 @@ use Rattle.lf_definitions.specs.Expansion.{own_variables}
 use Rattle.lf_definitions.specs.Substitution.{Replacement, stays, push, push_all, SubstitutedType}
 use Rattle.lf_definitions.specs.Typing.{Typing, with_variable}
 use Rattle.lf_definitions.specs.Signatures.{LfSignature}
+use Rattle.typing_laws.specs.EtaLaws.{expanded}
 use Rattle.file_trees.specs.declared.span.Span.{Span}
 use Rattle.file_trees.specs.Trees.{Tree, leaf, abstraction}
 use Rattle.file_trees.specs.Places.{tree_place}
@@ -13,10 +14,6 @@ use Rattle.elab_terms.specs.Applied.{IsApplied}
 use Rattle.elab_terms.specs.Names.{Text, text_at, binder_name, Bound, named_head}
 use Rattle.elab_terms.specs.declared.elab_fault.ElabFault.{ElabFault}
 use Rattle.elab_terms.specs.declared.elab_fault.ElabFault.TheVariants.{Unknown, Redex, IllTyped}
-
--- a head with its first arguments, made eta-long at the shape of what it still takes
-abbrev pub expanded : LfHead → Spine → SimpleType → LfTerm
-expanded h ts s = lams (arity s) (at (next_by (arity s) h) (joined (rename_spine (next_by (arity s)) ts) (own_variables s)))
 
 mutual
   pub data ReadsTerm (text : Text) (sig : LfSignature) : Bound → Typing → Tree → LfType → LfTerm → Type 0 where

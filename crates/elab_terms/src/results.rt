@@ -9,7 +9,7 @@ ghost use Rattle.lf_terms.specs.Putting.{putting, Puts, TypeShaped};
 ghost use Rattle.lf_terms.specs.Terms.{head_of, term_of, spine_of};
 ghost use Rattle.lf_terms.specs.Shapes.{simple_types_of};
 ghost use Rattle.lf_terms.specs.Types.{type_of, types_of};
-ghost use Rattle.elab_terms.specs.Terms.{expanded};
+ghost use Rattle.typing_laws.specs.EtaLaws.{expanded};
 ghost use Rattle.elab_terms.specs.Domains.{left_of};
 
 use basics::NoMemory;
