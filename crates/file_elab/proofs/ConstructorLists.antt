@@ -1,154 +1,151 @@
--- The constants of a list of constructors by their names, one more at a time.
-use Rattle.std.proofs.Common.{◌≡◌, ℕ, ◌+◌, ◌<◌, ◌≤◌, true, false, cond, List, [], ◌∷◌, ◌++◌, length, get_or, take, drop, Some, None, refl, sym, ap, ◌∙◌, subst, arith, length-append, append_assoc, take_all}
-use Rattle.std.specs.Prelude.{Err, Contains, nat_eq}
-use Rattle.std.specs.List.{list_any, All}
-use Rattle.std.proofs.lemmas.Bool.{eqb-true}
-use Rattle.std.proofs.lemmas.List.{take-append-drop, take_more, take_at, get_or_at}
-use Rattle.std.specs.Cmp.{nat_eq_equiv}
-use Rattle.std.proofs.lemmas.Map.Views.{Contains-from_any, list_any-from_Contains}
-use Rattle.std.proofs.lemmas.Option.{slice_get-get_or, slice_get_within}
-use Rattle.indexmap.specs.IndexSet.{insert_key}
-use Rattle.lf_definitions.specs.Signatures.{LfSignature, family_names, family_kinds, constant_names, constant_types}
-use Rattle.lf_definitions.proofs.Counts.{length-family_names}
+-- Lists of constructors of a file: the numbers that are read for their names, and what a book says of them.
+use Rattle.std.proofs.Common.{◌≡◌, ℕ, zero, suc, ◌+◌, ◌<◌, List, [], ◌∷◌, ◌++◌, length, map, get_or, take, drop, Option, Some, None, refl, sym, ap, ◌∙◌, subst, arith, append_assoc, Err, Ok}
+use Rattle.std.specs.Prelude.{Contains, slice_get}
+use Rattle.std.proofs.lemmas.List.{take-append-drop, take_more, take-map, length-map}
+use Rattle.std.proofs.lemmas.Option.{slice_get_within}
 use Rattle.basics.specs.Places.{place_of}
 use Rattle.basics.proofs.NamePlaces.{place_found}
+use Rattle.lf_definitions.specs.Signatures.{LfSignature, family_names, family_kinds, constant_names, constant_types}
+use Rattle.lf_definitions.proofs.Counts.{length-family_names, length-constant_names}
 use Rattle.file_trees.specs.declared.span.Span.{Span}
 use Rattle.file_trees.specs.declared.decl_tree.DeclTree.TheVariants.{Ctors}
+use Rattle.rule_sets.specs.declared.rule.CtorFault.{CtorFault}
+use Rattle.rule_sets.specs.declared.rule.CtorFault.TheVariants.{Taken, Repeated, Other, NoMemory}
 use Rattle.rule_sets.specs.Books.{Book, list_of}
 use Rattle.rule_sets.specs.Refusals.{AddsList, AreConstructors, HasFamily, IsFirstFaultOfList, list_taken, list_repeated, list_other}
-use Rattle.rule_sets.specs.declared.rule.CtorFault.{CtorFault}
-use Rattle.rule_sets.specs.declared.rule.CtorFault.TheVariants.{Repeated}
-use Rattle.rule_sets.proofs.Constructors.{good_more}
+use Rattle.rule_sets.proofs.Candidates.{at_from_Contains}
 use Rattle.elab_terms.specs.KnownTypes.{IsRefusal}
 use Rattle.elab_terms.specs.Names.{Text, text_at}
-use Rattle.elab_terms.specs.declared.elab_fault.ElabFault.{ElabFault}
-use Rattle.elab_terms.specs.declared.elab_fault.ElabFault.TheVariants.{Taken, TooMany, Unknown, Redex, IllTyped, BadRule, NoMemory}
 use Rattle.file_elab.specs.ProgramParts.{program_with, DeclaresInBook, RefusesInBook}
-use Rattle.file_elab.specs.Programs.{AreNumbers, no_number, one_number, Declares, declares_constructors, refuses_listed_name, refuses_listed_again, refuses_listed_other}
-use Rattle.file_elab.specs.Constructors.{RefusesNext, next_unknown, next_again, next_other, RefusesList}
-
--- What refuses whatever the fault, refuses where memory is not wanted.
-pub refusal_of : (P : ElabFault → Type 0) (fault : ElabFault) → P fault → IsRefusal P fault
-refusal_of P (Taken n) p = p
-refusal_of P (TooMany n) p = p
-refusal_of P (Unknown n) p = p
-refusal_of P (Redex n) p = p
-refusal_of P (IllTyped n) p = p
-refusal_of P (BadRule n) p = p
-refusal_of P NoMemory p = tt
+use Rattle.file_elab.specs.Programs.{AreNumbers, no_number, one_number, Declares, declares_constructors, refuses_listed, refuses_listed_name, refuses_listed_again, refuses_listed_other}
+use Rattle.file_elab.specs.ReadRules.{number_or}
+use Rattle.file_elab.specs.Constructors.{number_in, HasPlaceIn, unknown_or_bad, list_refused_as}
 
 pub family_within : (sig : LfSignature) (name : List ℕ) (f : ℕ) → place_of (family_names sig) name ≡ Some f → f < length (family_kinds sig)
 family_within sig name f e = omega (arith, slice_get_within (family_names sig) f name (place_found name (family_names sig) f e), length-family_names sig)
 
-pub constant_within : (sig : LfSignature) (name : List ℕ) (c : ℕ) → place_of (constant_names sig) name ≡ Some c → c < length (constant_names sig)
-constant_within sig name c e = slice_get_within (constant_names sig) c name (place_found name (constant_names sig) c e)
+-- a number below the constants is that of its name
+known : (past : ℕ) (o : Option ℕ) → number_or past o < past → o ≡ Some (number_or past o)
+known past None less = absurd (omega arith)
+known past (Some number) less = refl
 
-pub no_constructors : (sig : LfSignature) (f : ℕ) (constants : List ℕ) → constants ≡ [] → AreConstructors sig f constants
-no_constructors sig f [] none = λ place constant here. absurd cc
-no_constructors sig f (c ∷ constants) none = absurd cc
+constant_of : (sig : LfSignature) (f constant : ℕ) → HasFamily sig f constant → constant < length (constant_names sig)
+constant_of sig f constant has = omega (arith, slice_get_within (constant_types sig) constant has.type has.type_is, length-constant_names sig)
 
--- A list that was tested has no fault.
-no_fault : (sig : LfSignature) (book : Book) (f : ℕ) (constants : List ℕ) (fault : CtorFault) → list_of book.lists f ≡ None → AreConstructors sig f constants →
-    IsFirstFaultOfList sig book f constants fault → ⊥
-no_fault sig book f constants _ none good (list_taken some) = some none
-no_fault sig book f constants _ none good (list_repeated place c _ _ here again) = (good place c here).0 again
-no_fault sig book f constants _ none good (list_other place c _ _ here _ other) = other (good place c here).1
+-- The numbers of the names before a place.
+module _ (text : Text) (sig : LfSignature) where
+  abbrev number : Span → ℕ
+  number = number_in text sig
 
-pub not_repeated : (sig : LfSignature) (book new : Book) (f : ℕ) (constants : List ℕ) (fault : CtorFault) (place : ℕ) → list_of book.lists f ≡ None → AreConstructors sig f constants →
-    fault ≡ Repeated place → AddsList sig book f constants (Err fault) new → ⊥
-not_repeated sig book new f constants fault place none good is adds =
-    let P : CtorFault → Type 0 = λ fault. AddsList sig book f constants (Err fault) new in no_fault sig book f constants (Repeated place) none good (subst P is adds).0
+  abbrev past : ℕ
+  past = length (constant_names sig)
 
-numbers_more : (text : Text) (sig : LfSignature) (spans : List Span) (span : Span) (constants : List ℕ) (c : ℕ) → AreNumbers text sig spans constants →
-    place_of (constant_names sig) (text_at text span) ≡ Some c → AreNumbers text sig (spans ++ span ∷ []) (constants ++ c ∷ [])
-numbers_more text sig _ span _ c no_number e = one_number span [] c [] e no_number
-numbers_more text sig _ span _ c (one_number first spans d constants is rest) e =
-    one_number first (spans ++ span ∷ []) d (constants ++ c ∷ []) is (numbers_more text sig spans span constants c rest e)
+  number_known : (span : Span) → number span < past → place_of (constant_names sig) (text_at text span) ≡ Some (number span)
+  number_known span less = known past (place_of (constant_names sig) (text_at text span)) less
 
--- What the next constant is, where those before it are good and have been passed.
-module _ (sig : LfSignature) (f : ℕ) (constants keys : List ℕ) (c : ℕ) (passed : keys ≡ constants) (good : AreConstructors sig f constants) where
-  abbrev all : List ℕ
-  all = constants ++ c ∷ []
+  are_numbers : (spans : List Span) → ((place constant : ℕ) → slice_get (map number spans) place ≡ Some constant → constant < past) → AreNumbers text sig spans (map number spans)
+  are_numbers [] below = no_number
+  are_numbers (span ∷ spans) below =
+      one_number span spans (number span) (map number spans) (number_known span (below 0 (number span) refl)) (are_numbers spans (λ place constant here. below (suc place) constant here))
 
-  count : ℕ
-  count = length constants
+  pub constructors_are_numbers : (f : ℕ) (spans : List Span) → AreConstructors sig f (map number spans) → AreNumbers text sig spans (map number spans)
+  constructors_are_numbers f spans good = are_numbers spans (λ place constant here. constant_of sig f constant (good place constant here).1)
 
-  last_is : get_or all (length constants) 0 ≡ c
-  last_is = get_or_at constants c [] 0 (length constants) refl
+  slice_get-map : (spans : List Span) (place constant : ℕ) (d : Span) → slice_get (map number spans) place ≡ Some constant → number (get_or spans place d) ≡ constant
+  slice_get-map [] place constant d here = absurd cc
+  slice_get-map (span ∷ spans) zero constant d here = some_number here
+    where
+      some_number : {a b : ℕ} → ◌≡◌ {A = Option ℕ} (Some a) (Some b) → a ≡ b
+      some_number e = cc
+  slice_get-map (span ∷ spans) (suc place) constant d here = slice_get-map spans place constant d here
 
-  prefix_is : take (length constants) all ≡ constants
-  prefix_is = take_at constants (c ∷ []) (length constants) refl
+  -- What the book says of the list that was read.
+  module _ (old : Book) (name : Span) (spans : List Span) (f : ℕ) (family_is : place_of (family_names sig) (text_at text name) ≡ Some f) where
+    abbrev Refused : CtorFault → Type 0
+    Refused fault = IsRefusal (RefusesInBook text sig old (Ctors name spans)) (list_refused_as text sig name spans fault)
 
-  within : length constants < length all
-  within = omega (arith, length-append constants (c ∷ []))
+    pub place_in : (fault : CtorFault) → IsFirstFaultOfList sig old f (map number spans) fault → HasPlaceIn spans fault
+    place_in _ (list_taken some) = tt
+    place_in _ (list_repeated place constant none good here again) =
+        let within : place < length (map number spans) = slice_get_within (map number spans) place constant here in omega (arith, within, length-map spans number)
+    place_in _ (list_other place constant none good here new other) =
+        let within : place < length (map number spans) = slice_get_within (map number spans) place constant here in omega (arith, within, length-map spans number)
 
-  whole : take (length constants + 1) all ≡ all
-  whole = take_all (length constants + 1) all (omega (arith, length-append constants (c ∷ [])))
+    pub adds_place_in : (new : Book) (fault : CtorFault) → AddsList sig old f (map number spans) (Err fault) new → HasPlaceIn spans fault
+    adds_place_in new Taken adds = tt
+    adds_place_in new (Repeated place) adds = place_in (Repeated place) adds.0
+    adds_place_in new (Other place) adds = place_in (Other place) adds.0
+    adds_place_in new (NoMemory kept) adds = tt
 
-  good_prefix : AreConstructors sig f (take (length constants) all)
-  good_prefix = let P : List ℕ → Type 0 = AreConstructors sig f in subst P (sym prefix_is) good
+    -- The names before the place, the one there and those after it.
+    module _ (place constant : ℕ) (none : list_of old.lists f ≡ None) (good : AreConstructors sig f (take place (map number spans))) (here : slice_get (map number spans) place ≡ Some constant) where
+      abbrev span : Span
+      span = get_or spans place name
 
-  missing_last : list_any (nat_eq c) keys ≡ false → list_any (nat_eq (get_or all (length constants) 0)) keys ≡ false
-  missing_last missing = ap (λ d. list_any (nat_eq d) keys) last_is ∙ missing
+      within : place < length spans
+      within = omega (arith, slice_get_within (map number spans) place constant here, length-map spans number)
 
-  pub passed_before : list_any (nat_eq c) keys ≡ true → Contains constants c
-  passed_before seen = let P : List ℕ → Type 0 = λ l. Contains l c in subst P passed (Contains-from_any eqb-true c keys seen)
+      number_is : number span ≡ constant
+      number_is = slice_get-map spans place constant name here
 
-  pub not_passed_before : list_any (nat_eq c) keys ≡ false → Contains constants c → ⊥
-  not_passed_before missing has =
-      let P : List ℕ → Type 0 = λ l. Contains l c in
-      let seen : list_any (nat_eq c) keys ≡ true = list_any-from_Contains nat_eq_equiv c keys (subst P (sym passed) has) in cc
+      good_before : AreConstructors sig f (map number (take place spans))
+      good_before = let P : List ℕ → Type 0 = AreConstructors sig f in subst P (take-map number place spans) good
 
-  pub constructors_more : list_any (nat_eq c) keys ≡ false → HasFamily sig f c → AreConstructors sig f (constants ++ c ∷ [])
-  constructors_more missing has =
-      let P : List ℕ → Type 0 = AreConstructors sig f in
-      let Q : ℕ → Type 0 = HasFamily sig f in
-      subst P whole (good_more sig f all all (length constants) keys refl within (passed ∙ sym prefix_is) good_prefix (missing_last missing) (subst Q (sym last_is) has))
+      numbers_before : AreNumbers text sig (take place spans) (map number (take place spans))
+      numbers_before = constructors_are_numbers f (take place spans) good_before
 
-  pub passed_next : (new : List ℕ) → list_any (nat_eq c) keys ≡ false → new ≡ insert_key nat_eq keys c → new ≡ constants ++ c ∷ []
-  passed_next new missing is = is ∙ ap (λ b. cond b keys (keys ++ c ∷ [])) missing ∙ ap (λ l. l ++ c ∷ []) passed
+      split : take place spans ++ span ∷ drop (place + 1) spans ≡ spans
+      split =
+          sym (append_assoc (take place spans) (span ∷ []) (drop (place + 1) spans)) ∙ ap (λ l. l ++ drop (place + 1) spans) (sym (take_more spans place name within))
+          ∙ take-append-drop (place + 1) spans
 
--- What the next of the spans does, where those before it are numbers.
-module _ (text : Text) (sig : LfSignature) (f : ℕ) (spans : List Span) (i : ℕ) (d : Span) (constants : List ℕ) (less : i < length spans)
-    (numbers : AreNumbers text sig (take i spans) constants) where
-  pub numbers_next : (c : ℕ) → place_of (constant_names sig) (text_at text (get_or spans i d)) ≡ Some c → AreNumbers text sig (take (i + 1) spans) (constants ++ c ∷ [])
-  numbers_next c e =
-      let P : List Span → Type 0 = λ l. AreNumbers text sig l (constants ++ c ∷ []) in
-      subst P (sym (take_more spans i d less)) (numbers_more text sig (take i spans) (get_or spans i d) constants c numbers e)
+      earlier : Contains (take place (map number spans)) constant → Contains (map number (take place spans)) constant
+      earlier has = let P : List ℕ → Type 0 = λ l. Contains l constant in subst P (take-map number place spans) has
 
-  pub refused_next : (fault : ElabFault) → AreConstructors sig f constants → RefusesNext text sig f constants (get_or spans i d) fault → RefusesList text sig f spans fault
-  refused_next fault good refused = record {
-    prefix = take i spans;
-    span = get_or spans i d;
-    rest = drop (i + 1) spans;
-    parts = sym (take-append-drop (i + 1) spans) ∙ ap (λ l. l ++ drop (i + 1) spans) (take_more spans i d less) ∙ append_assoc (take i spans) (get_or spans i d ∷ []) (drop (i + 1) spans);
-    constants = constants;
-    numbers = numbers;
-    constructors = good;
-    refused = refused;
-  }
+      later : (Contains (take place (map number spans)) constant → ⊥) → Contains (map number (take place spans)) constant → ⊥
+      later new has = let P : List ℕ → Type 0 = λ l. Contains l constant in new (subst P (sym (take-map number place spans)) has)
 
-pub numbers_all : (text : Text) (sig : LfSignature) (spans : List Span) (i : ℕ) (constants : List ℕ) → length spans ≤ i → AreNumbers text sig (take i spans) constants →
-    AreNumbers text sig spans constants
-numbers_all text sig spans i constants all numbers = let P : List Span → Type 0 = λ l. AreNumbers text sig l constants in subst P (take_all i spans all) numbers
+      known_earlier : Contains (take place (map number spans)) constant → constant < past
+      known_earlier has =
+          let found = at_from_Contains (take place (map number spans)) constant has in constant_of sig f constant (good found.0 constant found.1).1
 
--- What a list of constructors does to a book, where its family has none.
-module _ (text : Text) (sig : LfSignature) (old : Book) (name : Span) (spans : List Span) (f : ℕ) (family_is : place_of (family_names sig) (text_at text name) ≡ Some f)
-    (none : list_of old.lists f ≡ None) where
-  pub list_declared : (new : Book) (constants : List ℕ) → AreNumbers text sig spans constants → AreConstructors sig f constants →
-      new ≡ record { rules = old.rules; lists = old.lists ++ record { of_family = f; constants = constants } ∷ [] } → DeclaresInBook text sig old (Ctors name spans) new
-  list_declared new constants numbers good is theorems =
-      let P : Book → Type 0 = λ b. Declares text (program_with sig old theorems) (Ctors name spans) (program_with sig b theorems) in
-      subst P (sym is) (declares_constructors name spans f constants family_is none numbers good)
+      constant_is : constant < past → place_of (constant_names sig) (text_at text span) ≡ Some constant
+      constant_is less = number_known span (omega (arith, less, number_is)) ∙ ap (λ n. Some n) number_is
 
-  next_refused : (prefix rest : List Span) (span : Span) (constants : List ℕ) (fault : ElabFault) → AreNumbers text sig prefix constants → AreConstructors sig f constants →
-      RefusesNext text sig f constants span fault → RefusesInBook text sig old (Ctors name (prefix ++ span ∷ rest)) fault
-  next_refused prefix rest span constants _ numbers good (next_unknown absent) theorems = refuses_listed_name name span prefix rest f constants family_is none numbers good absent
-  next_refused prefix rest span constants _ numbers good (next_again c is again) theorems = refuses_listed_again name span prefix rest f c constants family_is none numbers good is again
-  next_refused prefix rest span constants _ numbers good (next_other c is new other) theorems =
-      refuses_listed_other name span prefix rest f c constants family_is none numbers good is new other
+      repeated : Contains (take place (map number spans)) constant → Refused (Repeated place)
+      repeated again theorems =
+          let P : List Span → Type 0 = λ l. RefusesInBook text sig old (Ctors name l) (list_refused_as text sig name spans (Repeated place)) in
+          subst P split
+          (λ ts. refuses_listed_again name span (take place spans) (drop (place + 1) spans) f constant (map number (take place spans)) family_is none numbers_before good_before
+          (constant_is (known_earlier again)) (earlier again)) theorems
 
-  pub list_refused : (fault : ElabFault) → RefusesList text sig f spans fault → RefusesInBook text sig old (Ctors name spans) fault
-  list_refused fault r =
-      let P : List Span → Type 0 = λ l. RefusesInBook text sig old (Ctors name l) fault in
-      subst P (sym r.parts) (next_refused r.prefix r.rest r.span r.constants fault r.numbers r.constructors r.refused)
+      other_by : (o : Option ℕ) → place_of (constant_names sig) (text_at text span) ≡ o → (Contains (take place (map number spans)) constant → ⊥) → (HasFamily sig f constant → ⊥) →
+          IsRefusal (RefusesInBook text sig old (Ctors name spans)) (unknown_or_bad span o)
+      other_by None absent new other = λ theorems.
+          let P : List Span → Type 0 = λ l. RefusesInBook text sig old (Ctors name l) (unknown_or_bad span None) in
+          subst P split (λ ts. refuses_listed_name name span (take place spans) (drop (place + 1) spans) f (map number (take place spans)) family_is none numbers_before good_before absent) theorems
+      other_by (Some found) is new other = λ theorems.
+          let same : found ≡ constant = ap (number_or past) (sym is) ∙ number_is in
+          let P : List Span → Type 0 = λ l. RefusesInBook text sig old (Ctors name l) (unknown_or_bad span (Some found)) in
+          subst P split
+          (λ ts. refuses_listed_other name span (take place spans) (drop (place + 1) spans) f constant (map number (take place spans)) family_is none numbers_before good_before
+          (is ∙ ap (λ n. Some n) same) (later new) other) theorems
+
+      other_refused : (Contains (take place (map number spans)) constant → ⊥) → (HasFamily sig f constant → ⊥) → Refused (Other place)
+      other_refused new other = other_by (place_of (constant_names sig) (text_at text span)) refl new other
+
+    first_refused : (fault : CtorFault) → IsFirstFaultOfList sig old f (map number spans) fault → Refused fault
+    first_refused _ (list_taken some) = λ theorems. refuses_listed name spans f family_is some
+    first_refused _ (list_repeated place constant none good here again) = repeated place constant none good here again
+    first_refused _ (list_other place constant none good here new other) = other_refused place constant none good here new other
+
+    pub list_refused : (new : Book) (fault : CtorFault) → AddsList sig old f (map number spans) (Err fault) new → Refused fault
+    list_refused new Taken adds = first_refused Taken adds.0
+    list_refused new (Repeated place) adds = first_refused (Repeated place) adds.0
+    list_refused new (Other place) adds = first_refused (Other place) adds.0
+    list_refused new (NoMemory kept) adds = tt
+
+    pub list_declared : (new : Book) → AddsList sig old f (map number spans) (Ok tt) new → DeclaresInBook text sig old (Ctors name spans) new
+    list_declared new adds theorems =
+        let P : Book → Type 0 = λ b. Declares text (program_with sig old theorems) (Ctors name spans) (program_with sig b theorems) in
+        subst P (sym adds.2) (declares_constructors name spans f (map number spans) family_is adds.0 (constructors_are_numbers f spans adds.1) adds.1)

@@ -1,56 +1,22 @@
 -- Major arguments: whether a constant has one of a number, and which numbers they have.
-use Rattle.std.proofs.Common.{◌≡◌, ℕ, zero, suc, ◌<◌, List, [], ◌∷◌, length, Option, Some, None, refl, sym, ap, ap₂, ◌∙◌, subst, arith, ◌⊎◌, inl, inr}
+use Rattle.std.proofs.Common.{◌≡◌, ℕ, zero, suc, ◌<◌, ◌≤◌, List, [], ◌∷◌, length, Some, refl, sym, ap, ◌∙◌, subst, arith}
 use Rattle.std.specs.Prelude.{◌≢◌, slice_get, IsFalse, nat_lt, ℤ, pos}
 use Rattle.std.proofs.lemmas.Bool.{ltb-false}
 use Rattle.std.proofs.lemmas.Option.{slice_get_within}
-use Rattle.lf_definitions.specs.Syntax.{LfType, pi, family, pis, Spine}
+use Rattle.lf_definitions.specs.Syntax.{LfType, family, pis, Spine}
 use Rattle.lf_definitions.specs.Signatures.{LfSignature, constant_types}
 use Rattle.lf_definitions.specs.Typing.{type_at}
 use Rattle.lf_definitions.proofs.Options.{Some-Some}
 use Rattle.rule_sets.specs.declared.rule.Builder.{Builder}
 use Rattle.rule_sets.specs.declared.rule.Builder.TheVariants.{Apply, Constructors, Cases, Forward, Destruct, Assumption, Hyps}
-use Rattle.rule_sets.specs.Refusals.{IsAtomic, argument_at, IsMajor, IsBadMajor}
+use Rattle.rule_sets.specs.Refusals.{argument_at, IsMajor, IsBadMajor}
 use Rattle.rule_sets.proofs.Types.{argument_at-pis}
+use Rattle.rule_sets.proofs.Decisions.{major_there}
 use Rattle.file_elab.specs.Rules.{IsMajorNumber, HasMajorPlace}
 use Rattle.file_elab.specs.ReadRules.{FitsMajor}
 
 pos_inj : {a b : ℕ} → pos a ≡ pos b → a ≡ b
 pos_inj e = cc
-
-suc_inj : {a b : ℕ} → suc a ≡ suc b → a ≡ b
-suc_inj e = omega arith
-
--- Whether a constant has the argument of a number can be told.
-module _ (sig : LfSignature) (subject : ℕ) where
-  abbrev Decided : ℕ → Type 0
-  Decided major = IsMajor sig subject major ⊎ (IsMajor sig subject major → ⊥)
-
-  atomic_decided : (a : LfType) → IsAtomic a ⊎ (IsAtomic a → ⊥)
-  atomic_decided (pi a b) = inr (λ h. h)
-  atomic_decided (family f args) = inl tt
-
-  argument_of : (type : LfType) (place : ℕ) → slice_get (constant_types sig) subject ≡ Some type → (m : IsMajor sig subject (suc place)) → argument_at type place ≡ Some m.argument
-  argument_of type place is m = ap₂ argument_at (Some-Some (sym is ∙ m.type_is)) (suc_inj m.place_is) ∙ m.argument_is
-
-  with_argument : (type : LfType) (place : ℕ) → slice_get (constant_types sig) subject ≡ Some type → (o : Option LfType) → argument_at type place ≡ o → Decided (suc place)
-  with_argument type place is None none = inr (λ m. let clash : ◌≡◌ {A = Option LfType} None (Some m.argument) = sym none ∙ argument_of type place is m in absurd cc)
-  with_argument type place is (Some a) some =
-      elim (atomic_decided a) [
-        | inl atomic ↦ inl (record { type = type; place = place; argument = a; type_is = is; place_is = refl; argument_is = some; atomic = atomic })
-        | inr other ↦ inr (λ m. let P : LfType → Type 0 = IsAtomic in other (subst P (Some-Some (sym (argument_of type place is m) ∙ some)) m.atomic))
-      ]
-
-  with_type : (type : LfType) (major : ℕ) → slice_get (constant_types sig) subject ≡ Some type → Decided major
-  with_type type zero is = inr (λ m. let clash = m.place_is in absurd (omega arith))
-  with_type type (suc place) is = with_argument type place is (argument_at type place) refl
-
-  with_constant : (major : ℕ) (o : Option LfType) → slice_get (constant_types sig) subject ≡ o → Decided major
-  with_constant major None none = inr (λ m. let clash : ◌≡◌ {A = Option LfType} None (Some m.type) = sym none ∙ m.type_is in absurd cc)
-  with_constant major (Some type) some = with_type type major some
-
-  major_there : (major : ℕ) → ((IsMajor sig subject major → ⊥) → ⊥) → IsMajor sig subject major
-  major_there major not_none =
-      elim (with_constant major (slice_get (constant_types sig) subject) refl) [ inl here ↦ here | inr none ↦ absurd (not_none none) ]
 
 zero_else : (major : ℕ) → (major ≢ 0 → ⊥) → major ≡ 0
 zero_else zero h = refl
@@ -104,3 +70,15 @@ few_binders sig b subject bs f args n cases is count few =
     let here = within sig subject bs f args has.0 is has.1.1 in
     let small : has.0 < 4294967296 = omega (arith, here, count, has.1.1.place_is, all) in
     (has.0, small, has.1.0))
+
+-- What is no constant has no argument.
+pub no_constant_fits : (sig : LfSignature) (b : Builder) (subject : ℕ) → b ≡ Cases → length (constant_types sig) ≤ subject → FitsMajor sig b subject
+no_constant_fits sig b subject cases past =
+    let P : Builder → Type 0 = λ c. FitsMajor sig c subject in
+    subst P (sym cases) (λ value has. let there : subject < length (constant_types sig) = slice_get_within (constant_types sig) subject has.1.1.type has.1.1.type_is in absurd (omega (arith, there, past)))
+
+-- Cases has no major argument 0, and the other builders have no other.
+pub no_case : (sig : LfSignature) (b : Builder) (subject : ℕ) → b ≡ Cases → IsBadMajor sig b subject 0
+no_case sig b subject cases =
+    let P : Builder → Type 0 = λ c. IsBadMajor sig c subject 0 in
+    subst P (sym cases) (λ (m : IsMajor sig subject 0). let e = m.place_is in omega (arith, e))

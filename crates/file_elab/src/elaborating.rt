@@ -13,16 +13,17 @@ ghost use Rattle.file_elab.specs.Theorems.{AreFormed};
 
 use crate::constructors::declare_constructors;
 use crate::program::Program;
+use crate::rule_parts::RuleParts;
 use crate::rules::declare_rule;
 use crate::symbols::{declare_constant, declare_family};
 use crate::theorem::TheoremList;
 use crate::theorems::declare_theorem;
+use basics::NoMemory;
 use elab_terms::ElabFault;
 use elab_terms::file_text::FileText;
 use file_trees::{DeclTree, FileTree};
 use lex_text::tokens::tokens;
 use lex_text::{LexFault, Tokens};
-use basics::NoMemory;
 use lf_terms::Signature;
 use rule_sets::RuleBook;
 use std::alloc::Global;
@@ -98,7 +99,8 @@ fn declare(
     program: &mut Program,
     declaration: &DeclTree,
 ) -> Result<(), ElabFault>
-    requires { TokensOf source.now.bytes.now source.now.tokens.now }
+    requires tokens { TokensOf source.now.bytes.now source.now.tokens.now }
+    requires over { IsOver program.old.sig program.old.rules }
     ensures declared { IfOk result (λ _. Declares (text_in source.now) (program_of program.old) declaration.now (program_of program.new)) }
     ensures formed { OnOk result (AreFormed program.old.sig program.old.theorems → AreFormed program.new.sig program.new.theorems) }
     ensures over { OnOk result (IsOver program.old.sig program.old.rules → IsOver program.new.sig program.new.rules) }
@@ -124,13 +126,15 @@ fn declare(
             source,
             &program.sig,
             &mut program.rules,
-            *name,
-            *phase,
-            *number,
-            *builder,
-            *subject,
-            *major,
-            *set,
+            RuleParts {
+                name: *name,
+                phase: *phase,
+                number: *number,
+                builder: *builder,
+                subject: *subject,
+                major: *major,
+                set: *set,
+            },
         ),
         DeclTree::Ctors(name, spans) => declare_constructors(
             alloc,

@@ -1,51 +1,59 @@
 //! The parts of a rule.
 
-ghost use Rattle.std.specs.Prelude.{◌≡◌, ◌<◌, ◌^◌, ℕ, pos, IfOk, IfSome, IfNone};
+ghost use Rattle.std.specs.Prelude.{◌≡◌, ℕ, IfOk, IsFalse};
+ghost use Rattle.lf_definitions.specs.Signatures.{LfSignature};
 ghost use Rattle.elab_terms.specs.Names.{text_at};
-ghost use Rattle.file_elab.specs.Rules.{number_value, ReadsPhase, builder_of, subject_of, major_value, set_of};
 ghost use Rattle.elab_terms.specs.FileTexts.{text_in};
-ghost use Rattle.rule_sets.specs.declared.rule.Phase.{Phase};
-ghost use Rattle.rule_sets.specs.Books.{IsUserBuilder};
+ghost use Rattle.file_elab.specs.ReadRules.{IsPhaseFor, number_of, IsConstantFor, IsSubjectFor, IsMajorFor, FitsMajor};
+ghost use Rattle.file_elab.specs.Rules.{number_value, builder_of, major_value, set_of};
+ghost use Rattle.rule_sets.specs.declared.rule.Builder.TheVariants as builders;
+ghost use Rattle.rule_sets.specs.Refusals.{IsBadMajor, IsOver};
 
 use crate::number::{natural, penalty};
-use elab_terms::names::{constant_named, family_named};
-use elab_terms::file_text::{FileText, text};
-use file_trees::{BuildWord, PhaseWord, Span};
 use basics::{Name, NoMemory};
+use elab_terms::file_text::{FileText, text};
+use elab_terms::names::{constant_named, family_named};
+use file_trees::{BuildWord, PhaseWord, Span};
 use lf_terms::Signature;
 use rule_sets::{Builder, Phase, RuleBook};
 use std::alloc::Global;
 
-/// The phase of a rule with its number, if that may stand there.
-pub fn read_phase(word: PhaseWord, text: &[u8]) -> Option<Phase>
-    ensures some { IfSome result (ReadsPhase word (number_value text.now)) }
-    ensures none { IfNone result ((phase : Phase) → ReadsPhase word (number_value text.now) phase → ⊥) }
+/// The parts of a declaration of a rule, as they are written.
+#[derive(Clone, Copy)]
+pub struct RuleParts {
+    pub name: Span,
+    pub phase: PhaseWord,
+    pub number: Span,
+    pub builder: BuildWord,
+    pub subject: Span,
+    pub major: Option<Span>,
+    pub set: Option<Span>,
+}
+
+/// The phase of a rule with its number. A number that may not stand there is read as a percentage that no
+/// rule may have.
+pub fn read_phase(word: PhaseWord, text: &[u8]) -> Phase
+    ensures { IsPhaseFor word (number_value text.now) result }
 {
     match word {
         PhaseWord::Norm => match penalty(text) {
-            None => None,
-            Some(number) => Some(Phase::Norm(number)),
+            None => Phase::Unsafe(u8::MAX),
+            Some(number) => Phase::Norm(number),
         },
         PhaseWord::Safe => match penalty(text) {
-            None => None,
-            Some(number) => Some(Phase::Safe(number)),
+            None => Phase::Unsafe(u8::MAX),
+            Some(number) => Phase::Safe(number),
         },
         PhaseWord::Unsafe => match natural(text) {
-            None => None,
-            Some(percent) => {
-                if percent > 100 {
-                    return None;
-                }
-                Some(Phase::Unsafe(percent as u8))
-            }
+            None => Phase::Unsafe(u8::MAX),
+            Some(percent) => Phase::Unsafe(percent.min(255) as u8),
         },
     }
 }
 
 /// The builder that a word names.
 pub fn read_builder(word: BuildWord) -> Builder
-    ensures is { result ≡ builder_of word }
-    ensures chosen { IsUserBuilder result }
+    ensures { result ≡ builder_of word }
 {
     match word {
         BuildWord::Apply => Builder::Apply,
@@ -56,31 +64,87 @@ pub fn read_builder(word: BuildWord) -> Builder
     }
 }
 
-/// The constant that a rule is made of, or for constructors the family with a list of them. It takes no
-/// memory.
-pub fn read_subject(sig: &Signature, book: &RuleBook, builder: Builder, name: &[u8]) -> Option<u32>
-    ensures { result ≡ subject_of sig.now book.now builder name.now }
+/// The constant that a rule is made of, or for constructors the family. A name of none is read as a number
+/// past them. It takes no memory.
+pub fn read_subject(sig: &Signature, book: &RuleBook, builder: Builder, name: &[u8]) -> u32
+    requires { IsOver sig.now book.now }
+    ensures { IsSubjectFor sig.now book.now builder name.now result }
 {
     match builder {
-        Builder::Constructors => match family_named(sig, name) {
-            None => None,
-            Some(family) => match book.ctors(family) {
-                None => None,
-                Some(_) => Some(family),
-            },
-        },
-        _ => constant_named(sig, name),
+        Builder::Constructors => read_family(sig, book, name),
+        _ => read_constant(sig, name),
     }
 }
 
-/// The number of the major argument, which is 0 where there is none.
-pub fn read_major(source: &FileText<'_>, major: Option<Span>) -> Option<u32>
-    ensures some { IfSome result (λ number. major_value (text_in source.now) major ≡ pos number) }
-    ensures none { IfNone result ((number : ℕ) → number < 2 ^ 32 → major_value (text_in source.now) major ≡ pos number → ⊥) }
+// The number of the family of a name, or one that has no list.
+fn read_family(sig: &Signature, book: &RuleBook, name: &[u8]) -> u32
+    requires { IsOver sig.now book.now }
+    ensures { IsSubjectFor sig.now book.now builders.Constructors name.now result }
 {
-    match major {
-        None => Some(0),
-        Some(span) => natural(text(source, span)),
+    match family_named(sig, name) {
+        None => sig.families(),
+        Some(family) => family,
+    }
+}
+
+/// The number of the constant of a name, or else how many constants there are. It takes no memory.
+pub fn read_constant(sig: &Signature, name: &[u8]) -> u32
+    ensures number { result ≡ number_of sig.now name.now }
+    ensures known { IsConstantFor sig.now name.now result }
+{
+    match constant_named(sig, name) {
+        None => sig.constants(),
+        Some(constant) => constant,
+    }
+}
+
+/// The number of the major argument, which is 0 where there is none. One past 32 bits is read as a number
+/// that no argument has.
+pub fn read_major(
+    source: &FileText<'_>,
+    sig: &Signature,
+    builder: Builder,
+    subject: u32,
+    major: Option<Span>,
+) -> Result<u32, NoMemory>
+    ensures { IfOk result (IsMajorFor sig.now builder subject (major_value (text_in source.now) major)) }
+{
+    let Some(span) = major else {
+        return Ok(0);
+    };
+    match natural(text(source, span)) {
+        Some(number) => Ok(number),
+        None => {
+            if may_be_large(sig, builder, subject) {
+                return Err(NoMemory);
+            }
+            Ok(no_major(builder))
+        }
+    }
+}
+
+// Whether an argument of the subject may have a number past 32 bits.
+fn may_be_large(sig: &Signature, builder: Builder, subject: u32) -> bool
+    ensures { IsFalse result → FitsMajor sig.now builder subject }
+{
+    match builder {
+        Builder::Cases => {
+            if subject >= sig.constants() {
+                return false;
+            }
+            sig.type_of(subject).binders.len() > u32::MAX as usize
+        }
+        _ => false,
+    }
+}
+
+// A number that no major argument has.
+fn no_major(builder: Builder) -> u32
+    ensures { (sig : LfSignature) (subject : ℕ) → IsBadMajor sig builder subject result }
+{
+    match builder {
+        Builder::Cases => 0,
+        _ => 1,
     }
 }
 

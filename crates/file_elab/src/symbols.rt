@@ -11,12 +11,12 @@ ghost use Rattle.file_elab.specs.Programs.{MayBeNamed, RefusesName};
 ghost use Rattle.elab_terms.specs.FileTexts.{text_in};
 ghost use Rattle.file_trees.specs.declared.decl_tree.DeclTree.TheVariants as declarations;
 
+use basics::Name;
 use basics::limits::MOST_SYMBOLS;
 use elab_terms::ElabFault;
 use elab_terms::closed::{closed_kind, closed_type};
 use elab_terms::file_text::{FileText, text};
 use file_trees::{Span, TypeTree};
-use basics::Name;
 use lf_terms::Signature;
 use std::alloc::Global;
 

@@ -11,13 +11,13 @@ ghost use Rattle.file_elab.specs.Programs.{MayBeNamed, RefusesName};
 ghost use Rattle.file_elab.specs.Theorems.{AreFormed};
 ghost use Rattle.file_trees.specs.declared.decl_tree.DeclTree.TheVariants as declarations;
 
-use basics::limits::MOST_THEOREMS;
 use crate::theorem::{Theorem, TheoremList};
+use basics::Name;
+use basics::limits::MOST_THEOREMS;
 use elab_terms::ElabFault;
 use elab_terms::closed::closed_type;
 use elab_terms::file_text::{FileText, text};
 use file_trees::{Span, TypeTree};
-use basics::Name;
 use lf_terms::Signature;
 use std::alloc::Global;
 

@@ -5,7 +5,7 @@ use Rattle.std.proofs.lemmas.Bool.{eqb-true}
 use Rattle.std.proofs.lemmas.List.Elements.{All-head, All-tail}
 use Rattle.std.proofs.lemmas.Option.{slice_get-get_or}
 use Rattle.lf_definitions.specs.Syntax.{family, no_args}
-use Rattle.lf_definitions.specs.Signatures.{LfSignature, constant_types}
+use Rattle.lf_definitions.specs.Signatures.{LfSignature, constant_types, family_kinds}
 use Rattle.rule_sets.specs.declared.rule.Phase.{Phase}
 use Rattle.rule_sets.specs.declared.rule.Phase.TheVariants.{Norm, Safe, Unsafe}
 use Rattle.rule_sets.specs.declared.rule.Builder.{Builder}
@@ -46,6 +46,14 @@ list_over sig (l ∷ lists) f constants all e = by (nat_eq l.of_family f) refl e
         let Q : List ℕ → Type 0 = λ cs. IsListOver sig (record { of_family = f; constants = cs }) in
         subst Q (some_list same) (subst P (eqb-true _ _ here) (All-head (IsListOver sig) l lists all))
     by false other same later = later same
+
+-- A family past those of the signature has no list.
+pub unlisted_past : (sig : LfSignature) (book : Book) (f : ℕ) → IsOver sig book → length (family_kinds sig) ≤ f → list_of book.lists f ≡ None
+unlisted_past sig book f over past = by (list_of book.lists f) refl
+  where
+    by : (o : Option (List ℕ)) → list_of book.lists f ≡ o → list_of book.lists f ≡ None
+    by None none = none
+    by (Some constants) here = let within = (list_over sig book.lists f constants over.lists here).family_is in absurd (omega (arith, within, past))
 
 list_there : (sig : LfSignature) (book : Book) (f : ℕ) → IsOver sig book → (list_of book.lists f ≡ None → ⊥) → IsListed sig book f
 list_there sig book f over some = by (list_of book.lists f) refl

@@ -9,4 +9,4 @@ pub mod Over
 pub mod Orders
 pub mod BookParts
 pub mod Decisions
-mod FittingRules
+pub mod FittingRules

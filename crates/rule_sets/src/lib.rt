@@ -1,7 +1,7 @@
 //! Rules and rule sets: which rules stand, which refuse to, and in which order those of some sets
 //! are tried. Rules speak of the constants of an `lf_terms::Signature`, which stands below.
-//! Proved: each refusal comes exactly where it is the first that holds, and the order is the stated
-//! one.
+//! Proved: each refusal comes exactly where it is the first that holds, a book begins with the built-in
+//! rules and each later rule fits the signature that it was added over, and the order is the stated one.
 #![tactic(auto)]
 
 pub mod book;
