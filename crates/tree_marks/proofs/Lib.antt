@@ -1,0 +1,4 @@
+mod Entries
+mod Climbs
+mod Freshness
+pub mod Settling

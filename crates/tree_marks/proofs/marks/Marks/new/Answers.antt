@@ -1,0 +1,9 @@
+use Rattle.std.proofs.Common.{◌++◌, [], ◌∷◌, true, false, ap, ◌∙◌}
+use Rattle.tree_marks.proofs.Settling.{root_settled}
+use Rattle.tree_marks.proofs.marks.Marks.new.Goals as goal
+
+pub returns : goal.returns
+returns c = root_settled _ _ _
+    (c.in_ok-push.ensures.items ∙ ap (λ flags. flags ++ false ∷ []) c.new-proved.ensures.items)
+    (c.in_ok-push-2.ensures.items ∙ ap (λ flags. flags ++ false ∷ []) c.new-stuck.ensures.items)
+    (c.in_ok-push-3.ensures.items ∙ ap (λ flags. flags ++ true ∷ []) c.new-relevant.ensures.items)

@@ -1,0 +1,69 @@
+-- What a contract sees of marks that are kept in vectors.
+use Rattle.std.specs.Prelude.{◌≡◌, ℕ, ◌<◌, Bool, true, false, not, ◌&&◌, ◌||◌, List, length, Option, Some, None, get_or}
+use Rattle.tree_runs.specs.Shapes.{TreeShape, nodes_count, alternatives_at, grow, IsChild, IsShape}
+use Rattle.tree_runs.specs.Marks.{all_children, some_child, proved_by, stuck_by, entry_at, is_proved, is_stuck, is_relevant}
+
+-- for each node, whether it is proved, stuck and relevant
+pub record TreeMarks : Type 0 where
+  pub proved : List Bool
+  pub stuck : List Bool
+  pub relevant : List Bool
+
+-- the marks, and for how many more nodes there is room
+pub record MarksRoom : Type 0 where
+  pub marks : TreeMarks
+  pub spare : ℕ
+
+-- whether a node is marked, where what doesn't stand is not
+abbrev pub marked : List Bool → ℕ → Bool
+marked flags node = get_or flags node false
+
+-- whether a node is still marked relevant, where what doesn't stand is
+abbrev pub unmarked : List Bool → ℕ → Bool
+unmarked flags node = get_or flags node true
+
+-- The marks of a shape's nodes are those of the definition.
+pub record Settled (shape : TreeShape) (marks : TreeMarks) : Type 0 where
+  pub is_shape : IsShape shape
+  pub proved_size : length marks.proved ≡ nodes_count shape
+  pub stuck_size : length marks.stuck ≡ nodes_count shape
+  pub relevant_size : length marks.relevant ≡ nodes_count shape
+  pub proved_is : (node : ℕ) → marked marks.proved node ≡ is_proved shape node
+  pub stuck_is : (node : ℕ) → marked marks.stuck node ≡ is_stuck shape node
+  pub relevant_is : (node : ℕ) → unmarked marks.relevant node ≡ is_relevant shape node
+
+-- The marks are right but for the alternatives that were just grown below the node.
+pub record JustGrown (shape : TreeShape) (node : ℕ) (marks : TreeMarks) : Type 0 where
+  pub before : TreeShape
+  pub counts : List ℕ
+  pub settled : Settled before marks
+  pub stands : node < nodes_count before
+  pub ungrown : alternatives_at before node ≡ None
+  pub grown : shape ≡ grow before node counts
+
+-- the two marks of a node agree with those of its children
+pub record IsLocalAt (shape : TreeShape) (proved stuck : List Bool) (node : ℕ) : Type 0 where
+  pub proved_is : marked proved node ≡ proved_by (marked proved) (alternatives_at shape node)
+  pub stuck_is : marked stuck node ≡ stuck_by (marked stuck) (alternatives_at shape node)
+
+-- an alternative is decided by the marks of its children
+abbrev pub entry_decided : List Bool → List Bool → Option (ℕ × ℕ) → Bool
+entry_decided proved stuck None = false
+entry_decided proved stuck (Some entry) = all_children (marked proved) entry || some_child (marked stuck) entry
+
+-- the children of this alternative are relevant
+abbrev pub keeps : TreeShape → List Bool → List Bool → List Bool → ℕ → ℕ → Bool
+keeps shape proved stuck relevant node alternative =
+    not (marked proved node || marked stuck node) && not (entry_decided proved stuck (entry_at (alternatives_at shape node) alternative)) && unmarked relevant node
+
+-- the children of a node are marked relevant just where they are
+abbrev pub IsFresh : TreeShape → List Bool → List Bool → List Bool → ℕ → Type 0
+IsFresh shape proved stuck relevant node =
+    (alternative place child : ℕ) → IsChild shape node alternative place child → unmarked relevant child ≡ keeps shape proved stuck relevant node alternative
+
+-- What holds when settling begins: all is right but at one node.
+pub record Begins (shape : TreeShape) (proved stuck relevant : List Bool) (node : ℕ) : Type 0 where
+  pub is_shape : IsShape shape
+  pub local : (other : ℕ) → (other ≡ node → ⊥) → IsLocalAt shape proved stuck other
+  pub fresh : (other : ℕ) → (other ≡ node → ⊥) → IsFresh shape proved stuck relevant other
+  pub root : unmarked relevant 0 ≡ true

@@ -1,0 +1,157 @@
+//! Marks.
+
+ghost use Rattle.std.specs.Prelude.{◌≡◌, ◌+◌, ◌-◌, ◌<◌, ◌≤◌, ◌++◌, length, replicate, vec_capacity, IfOk, OnOk};
+ghost use Rattle.tree_runs.specs.Shapes.{root_shape, nodes_count};
+ghost use Rattle.tree_marks.specs.TreeMarks.{marked, unmarked, Settled, JustGrown, Begins};
+
+use crate::climb::climb;
+use crate::refresh::refresh_from;
+use basics::NoMemory;
+use basics::limits::LIST_LIMIT;
+use std::alloc::Global;
+use std::marker::Model;
+use tree_shape::Shape;
+
+/// For each node whether it is proved, stuck and relevant. A contract sees these marks and for how many more nodes there is room.
+#[derive(Drop)]
+pub struct Marks {
+    proved: Vec<bool>,
+    stuck: Vec<bool>,
+    relevant: Vec<bool>,
+    spare: usize,
+}
+
+impl Model for Marks {
+    ghost use Rattle.std.specs.Prelude.{length, vec_capacity};
+    ghost use Rattle.tree_shape.specs.Room.{HasRoom};
+    ghost use Rattle.tree_marks.specs.TreeMarks.{MarksRoom};
+
+    ghost Value = { MarksRoom };
+
+    ghost view = { λ m. record {
+      marks = record { proved = m.proved.items; stuck = m.stuck.items; relevant = m.relevant.items };
+      spare = m.spare;
+    } };
+
+    ghost invariant = { λ m. HasRoom (length m.proved.items) (vec_capacity m.proved) m.spare
+        × HasRoom (length m.stuck.items) (vec_capacity m.stuck) m.spare
+        × HasRoom (length m.relevant.items) (vec_capacity m.relevant) m.spare };
+}
+
+// Puts flags last until there are this many, where there is room for them.
+fn extend(flags: &mut Vec<bool>, len: usize, flag: bool)
+    requires longer { length flags.old.items ≤ len }
+    requires room { len ≤ vec_capacity flags.old }
+    ensures items { flags.new.items ≡ flags.old.items ++ replicate (len - length flags.old.items) flag }
+    ensures capacity { vec_capacity flags.old ≤ vec_capacity flags.new }
+{
+    let more = len - flags.len();
+    for place in 0..more {
+        match flags.push(flag) {
+            Ok(()) => {}
+            Err(_) => unreachable!(),
+        }
+    }
+}
+
+// Marks what a node decides above it, and what that makes irrelevant.
+fn spread(proved: &mut [bool], stuck: &mut [bool], relevant: &mut [bool], shape: &Shape, node: u32)
+    requires begins { Begins shape.now.shape proved.old stuck.old relevant.old node }
+    requires proved_size { length proved.old ≡ nodes_count shape.now.shape }
+    requires stuck_size { length stuck.old ≡ nodes_count shape.now.shape }
+    requires relevant_size { length relevant.old ≡ nodes_count shape.now.shape }
+    requires stands { node < nodes_count shape.now.shape }
+    ensures { Settled shape.now.shape (record { proved = proved.new; stuck = stuck.new; relevant = relevant.new }) }
+{
+    let from = climb(proved, stuck, shape, node);
+    refresh_from(proved, stuck, relevant, shape, from);
+}
+
+impl Marks {
+    /// The root alone, undecided. It is refused for want of memory.
+    pub fn new(alloc: Global) -> Result<Marks, NoMemory>
+        ensures { IfOk result (λ made. Settled root_shape made.marks) }
+    {
+        let mut proved = Vec::new(alloc);
+        proved.push(false)?;
+        let mut stuck = Vec::new(alloc);
+        stuck.push(false)?;
+        let mut relevant = Vec::new(alloc);
+        relevant.push(true)?;
+        Ok(Marks {
+            proved,
+            stuck,
+            relevant,
+            spare: 0,
+        })
+    }
+
+    /// Makes room for this many nodes, so that settling takes no memory. A refusal changes nothing.
+    pub fn reserve(&mut self, n: usize) -> Result<(), NoMemory>
+        ensures marks { self.new.marks ≡ self.old.marks }
+        ensures more { self.old.spare ≤ self.new.spare }
+        ensures ok { OnOk result (n ≤ self.new.spare) }
+    {
+        if n <= self.spare {
+            return Ok(());
+        }
+        let most = LIST_LIMIT as usize;
+        if n > most - self.proved.len()
+            || n > most - self.stuck.len()
+            || n > most - self.relevant.len()
+        {
+            return Err(NoMemory);
+        }
+        self.proved.reserve(n)?;
+        self.stuck.reserve(n)?;
+        self.relevant.reserve(n)?;
+        self.spare = n;
+        Ok(())
+    }
+
+    /// Makes the marks right again after alternatives were grown below a node. There is room for their children. It takes no memory.
+    pub fn settle(&mut self, shape: &Shape, node: u32)
+        requires grown { JustGrown shape.now.shape node self.old.marks }
+        requires room { nodes_count shape.now.shape ≤ length self.old.marks.proved + self.old.spare }
+        ensures settled { Settled shape.now.shape self.new.marks }
+        ensures spare { nodes_count shape.now.shape + self.new.spare
+            ≡ length self.old.marks.proved + self.old.spare }
+    {
+        let len = shape.len() as usize;
+        self.spare -= len - self.proved.len();
+        extend(&mut self.proved, len, false);
+        extend(&mut self.stuck, len, false);
+        extend(&mut self.relevant, len, true);
+        spread(
+            &mut self.proved,
+            &mut self.stuck,
+            &mut self.relevant,
+            shape,
+            node,
+        );
+    }
+
+    /// Whether a node that stands is proved.
+    pub fn proved(&self, node: u32) -> bool
+        requires { node < length self.now.marks.proved }
+        ensures { result ≡ marked self.now.marks.proved node }
+    {
+        self.proved[node as usize]
+    }
+
+    /// Whether a node that stands is stuck.
+    pub fn stuck(&self, node: u32) -> bool
+        requires { node < length self.now.marks.stuck }
+        ensures { result ≡ marked self.now.marks.stuck node }
+    {
+        self.stuck[node as usize]
+    }
+
+    /// Whether a node that stands is relevant.
+    pub fn relevant(&self, node: u32) -> bool
+        requires { node < length self.now.marks.relevant }
+        ensures { result ≡ unmarked self.now.marks.relevant node }
+    {
+        self.relevant[node as usize]
+    }
+}
