@@ -23,7 +23,7 @@ then_groups Less b c = refl
 then_groups Equal b c = refl
 then_groups Greater b c = refl
 
-both_equal : (a b : Ordering) → ordering_then a b ≡ Equal → (a ≡ Equal) × (b ≡ Equal)
+pub both_equal : (a b : Ordering) → ordering_then a b ≡ Equal → (a ≡ Equal) × (b ≡ Equal)
 both_equal Less b h = cc
 both_equal Equal b h = (refl, h)
 both_equal Greater b h = cc
@@ -33,7 +33,7 @@ then_decided Less b n = refl
 then_decided Equal b n = absurd (n refl)
 then_decided Greater b n = refl
 
-Some_inj : {A : Type 0} (x y : A) → Some x ≡ Some y → x ≡ y
+pub Some_inj : {A : Type 0} (x y : A) → Some x ≡ Some y → x ≡ y
 Some_inj {A = A} x y h = let pick : Option A → A = λ o. unwrap_or o x in ap pick h
 
 -- what the shape tells of a way up, in the form of its list

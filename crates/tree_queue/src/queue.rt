@@ -1,11 +1,13 @@
 //! The queue.
 
-ghost use Rattle.std.specs.Prelude.{◌≡◌, ◌⊎◌, ℕ, ◌+◌, ◌<◌, ◌≤◌, List, ◌++◌, ◌∷◌, [], All, IfSome, IfNone, OnSome, OnOk, Some, length, slice_get, true};
+ghost use Rattle.std.specs.Prelude.{◌≡◌, ◌+◌, ◌<◌, ◌≤◌, ◌∷◌, [], IfSome, IfNone, OnOk, Some, length, slice_get, true};
 ghost use Rattle.std.specs.List.Sorted.{IsPermutation};
 ghost use Rattle.tree_runs.specs.Shapes.{IsShape};
 ghost use Rattle.tree_queue.specs.declared.entry.Entry.{Entry};
 ghost use Rattle.tree_queue.specs.Orders.{IsPlaced};
-ghost use Rattle.tree_queue.specs.Queues.{IsQueueOf};
+ghost use Rattle.tree_runs.specs.Marks.{is_relevant};
+ghost use Rattle.tree_marks.specs.TreeMarks.{Settled};
+ghost use Rattle.tree_queue.specs.Queues.{IsQueueOf, IsBestOf, DropsIrrelevant};
 
 use crate::entry::Entry;
 use crate::heap::{pop_key, sift_up};
@@ -13,6 +15,7 @@ use basics::NoMemory;
 use slab::Slab;
 use std::alloc::Global;
 use std::marker::Model;
+use tree_marks::Marks;
 use tree_shape::Shape;
 
 /// Nodes with their priorities. A contract sees the list of its entries, in the order of a heap, and how many more fit
@@ -98,5 +101,30 @@ impl Queue {
     {
         let key = pop_key(&mut self.keys, &self.entries, shape);
         let _gone = self.entries.try_remove(key);
+    }
+}
+
+impl Queue {
+    /// The best entry of a relevant node, which then is the first. Entries of nodes that aren't relevant are dropped on the
+    /// way, and nothing is left where no entry is of a relevant node. It takes no memory.
+    pub fn best(&mut self, shape: &Shape, marks: &Marks) -> Option<Entry>
+        requires shape { IsShape shape.now.shape }
+        requires queue { IsQueueOf shape.now.shape self.old.entries }
+        requires marks { Settled shape.now.shape marks.now.marks }
+        ensures queue { IsQueueOf shape.now.shape self.new.entries }
+        ensures dropped { DropsIrrelevant shape.now.shape self.old.entries self.new.entries }
+        ensures spare { self.old.spare ≤ self.new.spare }
+        ensures none { IfNone result (self.new.entries ≡ []) }
+        ensures first { result ≡ slice_get self.new.entries 0 }
+        ensures relevant { IfSome result (λ entry. is_relevant shape.now.shape entry.node ≡ true) }
+        ensures best { IfSome result (IsBestOf shape.now.shape self.new.entries) }
+    {
+        while let Some(entry) = self.first() {
+            if marks.relevant(entry.node) {
+                return Some(entry);
+            }
+            self.take(shape);
+        }
+        None
     }
 }
