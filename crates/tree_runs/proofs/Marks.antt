@@ -17,7 +17,7 @@ all_from-agree p q first zero h = refl
 all_from-agree p q first (suc count) h =
     let here : p first ≡ q first = ap p (let e : first ≡ first + 0 = omega arith in e) ∙ h 0 (omega arith) ∙ ap q (let e : first + 0 ≡ first = omega arith in e) in
     let rest = all_from-agree p q (suc first) count (λ place within.
-        ap p (let e : suc first + place ≡ first + suc place = omega arith in e) ∙ h (suc place) (omega arith) ∙ ap q (let e : first + suc place ≡ suc first + place = omega arith in e)) in
+    ap p (let e : suc first + place ≡ first + suc place = omega arith in e) ∙ h (suc place) (omega arith) ∙ ap q (let e : first + suc place ≡ suc first + place = omega arith in e)) in
     cc
 
 pub any_from-agree : (p q : ℕ → Bool) (first count : ℕ) → ((place : ℕ) → place < count → p (first + place) ≡ q (first + place)) → any_from p first count ≡ any_from q first count
@@ -25,7 +25,7 @@ any_from-agree p q first zero h = refl
 any_from-agree p q first (suc count) h =
     let here : p first ≡ q first = ap p (let e : first ≡ first + 0 = omega arith in e) ∙ h 0 (omega arith) ∙ ap q (let e : first + 0 ≡ first = omega arith in e) in
     let rest = any_from-agree p q (suc first) count (λ place within.
-        ap p (let e : suc first + place ≡ first + suc place = omega arith in e) ∙ h (suc place) (omega arith) ∙ ap q (let e : first + suc place ≡ suc first + place = omega arith in e)) in
+    ap p (let e : suc first + place ≡ first + suc place = omega arith in e) ∙ h (suc place) (omega arith) ∙ ap q (let e : first + suc place ≡ suc first + place = omega arith in e)) in
     cc
 
 list_any-agree : {X : Type 0} (p q : X → Bool) (xs : List X) → ((i : ℕ) (x : X) → slice_get xs i ≡ Some x → p x ≡ q x) → list_any p xs ≡ list_any q xs
@@ -118,7 +118,7 @@ module _ (shape : TreeShape) (is_shape : IsShape shape) (relevant : ℕ → Bool
   relevant_known (suc height) node (Some way) e h =
       let r = above-rises shape is_shape node way e in
       ap (λ b. not (is_decided shape way.0) && not (is_alternative_decided shape way.0 way.1) && b)
-          (local way.0 ∙ relevant_known height way.0 (above_at shape way.0) refl (omega (arith, r)))
+      (local way.0 ∙ relevant_known height way.0 (above_at shape way.0) refl (omega (arith, r)))
 
   -- relevance is known by its local equation
   pub relevant-unique : (node : ℕ) → relevant node ≡ is_relevant shape node
@@ -204,16 +204,18 @@ module _ (shape : TreeShape) (node : ℕ) (counts : List ℕ) (is_shape : IsShap
   proved_within-grow : (depth n : ℕ) → proved_within shape depth n ≡ true → proved_within (grow shape node counts) depth n ≡ true
   proved_within-grow zero n a = a
   proved_within-grow (suc depth) n a = elim (same_or_other n node) [
-    inl same ↦ absurd (let e : proved_by (proved_within shape depth) None ≡ true = ap (proved_by (proved_within shape depth)) (sym ungrown ∙ ap (alternatives_at shape) (sym same)) ∙ a in cc)
+    | inl same ↦ absurd (let e : proved_by (proved_within shape depth) None ≡ true = ap (proved_by (proved_within shape depth)) (sym ungrown ∙ ap (alternatives_at shape) (sym same)) ∙ a in cc)
     | inr ne ↦ ap (proved_by (proved_within (grow shape node counts) depth)) (alternatives-others shape node counts is_shape stands ungrown n ne)
-        ∙ proved_by-weaker (proved_within shape depth) (proved_within (grow shape node counts) depth) (proved_within-grow depth) (alternatives_at shape n) a ]
+        ∙ proved_by-weaker (proved_within shape depth) (proved_within (grow shape node counts) depth) (proved_within-grow depth) (alternatives_at shape n) a
+  ]
 
   stuck_within-grow : (depth n : ℕ) → stuck_within shape depth n ≡ true → stuck_within (grow shape node counts) depth n ≡ true
   stuck_within-grow zero n a = a
   stuck_within-grow (suc depth) n a = elim (same_or_other n node) [
-    inl same ↦ absurd (let e : stuck_by (stuck_within shape depth) None ≡ true = ap (stuck_by (stuck_within shape depth)) (sym ungrown ∙ ap (alternatives_at shape) (sym same)) ∙ a in cc)
+    | inl same ↦ absurd (let e : stuck_by (stuck_within shape depth) None ≡ true = ap (stuck_by (stuck_within shape depth)) (sym ungrown ∙ ap (alternatives_at shape) (sym same)) ∙ a in cc)
     | inr ne ↦ ap (stuck_by (stuck_within (grow shape node counts) depth)) (alternatives-others shape node counts is_shape stands ungrown n ne)
-        ∙ stuck_by-weaker (stuck_within shape depth) (stuck_within (grow shape node counts) depth) (stuck_within-grow depth) (alternatives_at shape n) a ]
+        ∙ stuck_by-weaker (stuck_within shape depth) (stuck_within (grow shape node counts) depth) (stuck_within-grow depth) (alternatives_at shape n) a
+  ]
 
   pub proved-grow : (n : ℕ) → is_proved shape n ≡ true → is_proved (grow shape node counts) n ≡ true
   unfolding is_proved
@@ -235,9 +237,10 @@ module _ (shape : TreeShape) (node : ℕ) (counts : List ℕ) (is_shape : IsShap
 
   pub alternative_decided-grow : (n i : ℕ) → is_alternative_decided shape n i ≡ true → is_alternative_decided (grow shape node counts) n i ≡ true
   alternative_decided-grow n i a = elim (same_or_other n node) [
-    inl same ↦ absurd (let e : alternative_decided shape (entry_at None i) ≡ true = ap (λ o. alternative_decided shape (entry_at o i)) (sym ungrown ∙ ap (alternatives_at shape) (sym same)) ∙ a in cc)
+    | inl same ↦ absurd (let e : alternative_decided shape (entry_at None i) ≡ true = ap (λ o. alternative_decided shape (entry_at o i)) (sym ungrown ∙ ap (alternatives_at shape) (sym same)) ∙ a in cc)
     | inr ne ↦ ap (λ o. alternative_decided (grow shape node counts) (entry_at o i)) (alternatives-others shape node counts is_shape stands ungrown n ne)
-        ∙ entry_decided-grow (entry_at (alternatives_at shape n) i) a ]
+        ∙ entry_decided-grow (entry_at (alternatives_at shape n) i) a
+  ]
 
   relevant_from-grow : (height : ℕ) (way : Option (ℕ × ℕ × ℕ)) → ((w : ℕ × ℕ × ℕ) → way ≡ Some w → w.0 < nodes_count shape) → relevant_from (grow shape node counts) height way ≡ true → relevant_from shape height way ≡ true
   relevant_from-grow height None low a = refl
@@ -247,7 +250,7 @@ module _ (shape : TreeShape) (node : ℕ) (counts : List ℕ) (is_shape : IsShap
       let undecided = and_parts _ _ first.0 in
       let there : above_at (grow shape node counts) way.0 ≡ above_at shape way.0 = ap option_flatten (above-old shape node counts is_shape stands ungrown way.0 (low way refl)) in
       and_from _ _ (and_from _ _ (not_weaker _ _ (decided-grow way.0) undecided.0) (not_weaker _ _ (alternative_decided-grow way.0 way.1) undecided.1))
-          (relevant_from-grow height (above_at shape way.0) (λ w e. omega (arith, above-rises shape is_shape way.0 w e, low way refl)) (ap (relevant_from (grow shape node counts) height) (sym there) ∙ first.1))
+      (relevant_from-grow height (above_at shape way.0) (λ w e. omega (arith, above-rises shape is_shape way.0 w e, low way refl)) (ap (relevant_from (grow shape node counts) height) (sym there) ∙ first.1))
 
   -- relevance is never won back
   pub relevant-grow : (n : ℕ) → n < nodes_count shape → is_relevant (grow shape node counts) n ≡ true → is_relevant shape n ≡ true
