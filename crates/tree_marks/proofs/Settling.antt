@@ -4,10 +4,14 @@ use Rattle.std.specs.Prelude.{sum, slice_get}
 use Rattle.std.specs.Option.{option_flatten}
 use Rattle.std.proofs.lemmas.List.{get_or_past, take-append-le, take_all, length-replicate}
 use Rattle.std.proofs.lemmas.Option.{slice_get_cases}
-use Rattle.tree_runs.specs.Shapes.{TreeShape, root_shape, nodes_count, above_at, alternatives_at, grow, IsShape}
-use Rattle.tree_runs.specs.Marks.{proved_by, stuck_by, entry_at, is_proved, is_stuck, is_decided, alternative_decided, is_alternative_decided, relevant_from, relevant_by, is_relevant}
-use Rattle.tree_runs.proofs.Shapes.{IsShape-root, IsShape-grow, alternatives-others, old-child, nodes_count-grow}
-use Rattle.tree_runs.proofs.Marks.{all_from-agree, any_from-agree, proved_by-agree, stuck_by-agree, is_proved-local, is_stuck-local, proved-unique, stuck-unique, relevant-unique, above-rises}
+use Rattle.tree_runs.specs.Shapes.{TreeShape, root_shape, nodes_count, above_at, alternatives_at, grow, IsShape, IsChild}
+use Rattle.tree_runs.specs.Marks.{proved_by, stuck_by, entry_at, is_proved, is_stuck, alternative_decided, relevant_by, is_relevant}
+use Rattle.tree_runs.proofs.Shapes.{IsShape-root, IsShape-grow, alternatives-others, old-child, new-child, nodes_count-grow}
+use Rattle.tree_runs.proofs.Marks.{alternatives-past, all_from-agree, any_from-agree, proved_by-agree, stuck_by-agree, is_proved-local, is_stuck-local, proved-unique, stuck-unique, relevant-unique}
+use Rattle.tree_runs.proofs.Progress.{is_relevant-local, root_relevant}
+use Rattle.tree_runs.proofs.Lists.{same_or_other}
+use Rattle.tree_marks.proofs.Climbs.{one_parent}
+use Rattle.tree_marks.proofs.Freshness.{IsApart}
 use Rattle.tree_marks.specs.TreeMarks.{TreeMarks, marked, unmarked, Settled, JustGrown, IsLocalAt, entry_decided, keeps, IsFresh, Begins}
 
 default_alone : (k n : ℕ) (d : Bool) → get_or (replicate k d) n d ≡ d
@@ -19,28 +23,6 @@ pub default_stays : (flags : List Bool) (k : ℕ) (d : Bool) (n : ℕ) → get_o
 default_stays [] k d n = default_alone k n d
 default_stays (x ∷ flags) k d zero = refl
 default_stays (x ∷ flags) k d (suc n) = default_stays flags k d n
-
--- ---- relevance satisfies its local equation
-
-enough_height : (shape : TreeShape) → IsShape shape → (low high node : ℕ) (way : Option (ℕ × ℕ × ℕ)) → above_at shape node ≡ way → node ≤ low → node ≤ high → relevant_from shape low way ≡ relevant_from shape high way
-enough_height shape is_shape low high node None e a b = refl
-enough_height shape is_shape zero high node (Some way) e a b = absurd (let r = above-rises shape is_shape node way e in omega (arith, r))
-enough_height shape is_shape (suc low) zero node (Some way) e a b = absurd (let r = above-rises shape is_shape node way e in omega (arith, r))
-enough_height shape is_shape (suc low) (suc high) node (Some way) e a b =
-    let r = above-rises shape is_shape node way e in
-    ap (λ x. not (is_decided shape way.0) && not (is_alternative_decided shape way.0 way.1) && x) (enough_height shape is_shape low high way.0 (above_at shape way.0) refl (omega (arith, r)) (omega (arith, r)))
-
-relevant_once : (shape : TreeShape) → IsShape shape → (node : ℕ) (way : Option (ℕ × ℕ × ℕ)) → above_at shape node ≡ way → relevant_from shape node way ≡ relevant_by shape (is_relevant shape) way
-unfolding is_relevant
-relevant_once shape is_shape node None e = refl
-relevant_once shape is_shape zero (Some way) e = absurd (let r = above-rises shape is_shape zero way e in omega (arith, r))
-relevant_once shape is_shape (suc node) (Some way) e =
-    let r = above-rises shape is_shape (suc node) way e in
-    ap (λ x. not (is_decided shape way.0) && not (is_alternative_decided shape way.0 way.1) && x) (enough_height shape is_shape node way.0 way.0 (above_at shape way.0) refl (omega (arith, r)) (omega arith))
-
-pub is_relevant-local : (shape : TreeShape) → IsShape shape → (node : ℕ) → is_relevant shape node ≡ relevant_by shape (is_relevant shape) (above_at shape node)
-unfolding is_relevant
-is_relevant-local shape is_shape node = relevant_once shape is_shape node (above_at shape node) refl
 
 -- ---- alternatives, by flags that are the marks
 
@@ -91,8 +73,12 @@ module _ (before : TreeShape) (node : ℕ) (counts : List ℕ) (marks : TreeMark
       ∙ ap (λ o. not (marked proved other || marked stuck other) && not (entry_decided proved stuck (entry_at o alternative)) && unmarked relevant other)
       (sym (alternatives-others before node counts settled.is_shape stands ungrown other ne))
 
-root_relevant : (shape : TreeShape) → IsShape shape → is_relevant shape 0 ≡ true
-root_relevant shape is_shape = is_relevant-local shape is_shape 0 ∙ ap (relevant_by shape (is_relevant shape)) (ap option_flatten is_shape.root)
+new_is_childless : (before : TreeShape) (node : ℕ) (counts : List ℕ) → IsShape before → node < nodes_count before → alternatives_at before node ≡ None →
+    (alternative place child : ℕ) → IsChild (grow before node counts) node alternative place child → alternatives_at (grow before node counts) child ≡ None
+new_is_childless before node counts is_shape stands ungrown alternative place child c =
+    let born = new-child before node counts is_shape stands ungrown alternative place child c in
+    let number = born.number in
+    alternatives-others before node counts is_shape stands ungrown child (λ e. omega (arith, e, number, stands)) ∙ alternatives-past before is_shape child (omega (arith, number))
 
 pub begins : (shape : TreeShape) (node : ℕ) (marks : TreeMarks) (proved stuck relevant : List Bool) (i j k : ℕ) → JustGrown shape node marks →
     proved ≡ marks.proved ++ replicate i false → stuck ≡ marks.stuck ++ replicate j false → relevant ≡ marks.relevant ++ replicate k true → Begins shape proved stuck relevant node
@@ -104,6 +90,7 @@ begins shape node marks proved stuck relevant i j k h ep es er =
       is_shape = IsShape-grow h.before node h.counts h.settled.is_shape h.stands h.ungrown;
       local = local_elsewhere h.before node h.counts marks h.settled h.stands h.ungrown proved stuck relevant p s r;
       fresh = fresh_elsewhere h.before node h.counts marks h.settled h.stands h.ungrown proved stuck relevant p s r;
+      childless = new_is_childless h.before node h.counts h.settled.is_shape h.stands h.ungrown;
       root = r 0 ∙ h.settled.relevant_is 0 ∙ root_relevant h.before h.settled.is_shape;
     })
 
@@ -195,3 +182,19 @@ written_back flags rest n e = let within : n ≤ length flags = omega (arith, e)
 pub length-extended : (flags longer : List Bool) (n : ℕ) (d : Bool) → length flags ≤ n → longer ≡ flags ++ replicate (n - length flags) d → length longer ≡ n
 length-extended flags longer n d within e =
     ap length e ∙ length-append flags (replicate (n - length flags) d) ∙ ap (λ (k : ℕ). length flags + k) (length-replicate (n - length flags) d) ∙ (let z : length flags + (n - length flags) ≡ n = omega arith in z)
+
+-- ---- a node that decides nothing
+
+-- the children of just this node were marked
+pub one_refreshed : (shape : TreeShape) (proved stuck relevant relevant' : List Bool) (node : ℕ) → Begins shape proved stuck relevant node → IsFresh shape proved stuck relevant' node →
+    ((other : ℕ) → IsApart shape node other → unmarked relevant' other ≡ unmarked relevant other) → (other : ℕ) → IsFresh shape proved stuck relevant' other
+one_refreshed shape proved stuck relevant relevant' node h here others other = elim (same_or_other other node) [
+  | inl same ↦ subst (IsFresh shape proved stuck relevant') (sym same) here
+  | inr ne ↦ λ alternative place child c.
+      others child (λ i p d. ne (sym (one_parent shape h.is_shape node other i alternative p place child d c).0)) ∙ h.fresh other ne alternative place child c
+      ∙ ap (λ b. not (marked proved other || marked stuck other) && not (entry_decided proved stuck (entry_at (alternatives_at shape other) alternative)) && b)
+      (sym (others other (λ i p d. let clash : ◌≡◌ {A = Option (List (ℕ × ℕ))} None (Some c.all) = sym (h.childless i p other d) ∙ c.grown in cc)))
+]
+
+pub local_everywhere : (shape : TreeShape) (proved stuck relevant : List Bool) (node : ℕ) → Begins shape proved stuck relevant node → IsLocalAt shape proved stuck node → (other : ℕ) → IsLocalAt shape proved stuck other
+local_everywhere shape proved stuck relevant node h here other = elim (same_or_other other node) [ inl same ↦ subst (IsLocalAt shape proved stuck) (sym same) here | inr ne ↦ h.local other ne ]

@@ -66,4 +66,5 @@ pub record Begins (shape : TreeShape) (proved stuck relevant : List Bool) (node 
   pub is_shape : IsShape shape
   pub local : (other : ℕ) → (other ≡ node → ⊥) → IsLocalAt shape proved stuck other
   pub fresh : (other : ℕ) → (other ≡ node → ⊥) → IsFresh shape proved stuck relevant other
+  pub childless : (alternative place child : ℕ) → IsChild shape node alternative place child → alternatives_at shape child ≡ None
   pub root : unmarked relevant 0 ≡ true

@@ -15,6 +15,21 @@ fn is_flag(flags: &[bool], node: u32, flag: bool) -> bool
     flags[node as usize] == flag
 }
 
+// Whether a node has the marks that its children give it.
+pub fn is_settled_at(proved: &[bool], stuck: &[bool], shape: &Shape, node: u32) -> bool
+    requires shape { IsShape shape.now.shape }
+    requires proved_size { length proved.now ≡ nodes_count shape.now.shape }
+    requires stuck_size { length stuck.now ≡ nodes_count shape.now.shape }
+    requires stands { node < nodes_count shape.now.shape }
+    ensures { IsTrue result → IsLocalAt shape.now.shape proved.now stuck.now node }
+{
+    let is_proved = has_proved_alternative(proved, shape, node);
+    let is_stuck = has_only_stuck_alternatives(stuck, shape, node);
+    let keeps_proved = is_flag(proved, node, is_proved);
+    let keeps_stuck = is_flag(stuck, node, is_stuck);
+    keeps_proved && keeps_stuck
+}
+
 // Sets a node's flag.
 fn put_flag(flags: &mut [bool], node: u32, flag: bool)
     requires { node < length flags.old }

@@ -4,8 +4,8 @@ ghost use Rattle.std.specs.Prelude.{◌≡◌, ◌+◌, ◌-◌, ◌<◌, ◌≤
 ghost use Rattle.tree_runs.specs.Shapes.{root_shape, nodes_count};
 ghost use Rattle.tree_marks.specs.TreeMarks.{marked, unmarked, Settled, JustGrown, Begins};
 
-use crate::climb::climb;
-use crate::refresh::refresh_from;
+use crate::climb::{climb, is_settled_at};
+use crate::refresh::{refresh_from, refresh_node};
 use basics::NoMemory;
 use basics::limits::LIST_LIMIT;
 use std::alloc::Global;
@@ -63,8 +63,12 @@ fn spread(proved: &mut [bool], stuck: &mut [bool], relevant: &mut [bool], shape:
     requires stands { node < nodes_count shape.now.shape }
     ensures { Settled shape.now.shape (record { proved = proved.new; stuck = stuck.new; relevant = relevant.new }) }
 {
-    let from = climb(proved, stuck, shape, node);
-    refresh_from(proved, stuck, relevant, shape, from);
+    if is_settled_at(proved, stuck, shape, node) {
+        refresh_node(proved, stuck, relevant, shape, node);
+    } else {
+        let from = climb(proved, stuck, shape, node);
+        refresh_from(proved, stuck, relevant, shape, from);
+    }
 }
 
 impl Marks {

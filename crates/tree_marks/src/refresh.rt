@@ -40,7 +40,13 @@ fn keeps_entry(stays: bool, proved: &[bool], stuck: &[bool], first: u32, count: 
 }
 
 // Marks the children of a node.
-fn refresh_node(proved: &[bool], stuck: &[bool], relevant: &mut [bool], shape: &Shape, node: u32)
+pub fn refresh_node(
+    proved: &[bool],
+    stuck: &[bool],
+    relevant: &mut [bool],
+    shape: &Shape,
+    node: u32,
+)
     requires shape { IsShape shape.now.shape }
     requires proved_size { length proved.now ≡ nodes_count shape.now.shape }
     requires stuck_size { length stuck.now ≡ nodes_count shape.now.shape }

@@ -2,3 +2,14 @@ pub mod Lists
 pub mod Journals
 pub mod Shapes
 pub mod Marks
+pub mod Progress
+pub mod Best
+pub mod Addresses
+pub mod Holding
+pub mod Births
+pub mod Soundness
+pub mod Order
+pub mod StillRuns
+pub mod StillRunsExist
+pub mod AddressMarks
+pub mod Claims

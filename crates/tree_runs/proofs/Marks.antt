@@ -1,12 +1,12 @@
 -- Marks are known by the local equation, exclude each other, and only grow.
-use Rattle.std.proofs.Common.{◌≡◌, ◌≢◌, ◌⊎◌, inl, inr, ℕ, zero, suc, ◌+◌, ◌<◌, ◌≤◌, Bool, true, false, not, ◌&&◌, ◌||◌, List, [], ◌∷◌, length, Option, Some, None, refl, sym, ap, subst, ◌∙◌, arith}
+use Rattle.std.proofs.Common.{◌≡◌, ◌⊎◌, inl, inr, ℕ, zero, suc, ◌+◌, ◌<◌, ◌≤◌, Bool, true, false, not, ◌&&◌, ◌||◌, List, [], ◌∷◌, Option, Some, None, refl, sym, ap, subst, ◌∙◌, arith}
 use Rattle.std.specs.Option.{option_flatten}
 use Rattle.std.specs.Prelude.{slice_get, sum}
 use Rattle.std.specs.List.{list_any, list_all}
 use Rattle.std.proofs.lemmas.Bool.{and_parts, and_from}
 use Rattle.std.proofs.lemmas.Option.{slice_get_past}
 use Rattle.tree_runs.specs.Shapes.{TreeShape, nodes_count, above_at, alternatives_at, grow, IsChild, IsShape}
-use Rattle.tree_runs.specs.Marks.{all_from, any_from, all_children, some_child, proved_by, stuck_by, IsLocal, proved_within, stuck_within, is_proved, is_stuck, is_decided, entry_at, alternative_decided, is_alternative_decided, relevant_from, relevant_by, is_relevant}
+use Rattle.tree_runs.specs.Marks.{all_from, any_from, all_children, some_child, proved_by, stuck_by, proved_within, stuck_within, is_proved, is_stuck, is_decided, entry_at, alternative_decided, is_alternative_decided, relevant_from, relevant_by, is_relevant}
 use Rattle.tree_runs.proofs.Lists.{same_or_other}
 use Rattle.tree_runs.proofs.Shapes.{alternatives-others, above-old, nodes_count-grow}
 

@@ -21,7 +21,7 @@ length-grown_above node alternative (count ∷ counts) =
     length-append (children_above node alternative 0 count) (grown_above node (suc alternative) counts) ∙
     omega (arith, sum-cons count counts, length-children_above node alternative 0 count, length-grown_above node (suc alternative) counts)
 
-child_entry : (node alternative place left k : ℕ) → k < left → slice_get (children_above node alternative place left) k ≡ Some (Some (node, alternative, place + k))
+pub child_entry : (node alternative place left k : ℕ) → k < left → slice_get (children_above node alternative place left) k ≡ Some (Some (node, alternative, place + k))
 child_entry node alternative place zero k h = absurd (omega arith)
 child_entry node alternative place (suc left) zero h = ap (λ (p : ℕ). Some (Some (node, alternative, p))) (let e : place ≡ place + 0 = omega arith in e)
 child_entry node alternative place (suc left) (suc k) h =

@@ -4,4 +4,5 @@ pub mod Addresses
 pub mod States
 pub mod Best
 pub mod Runs
+pub mod Soundness
 pub mod Laws
