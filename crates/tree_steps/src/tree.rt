@@ -1,0 +1,244 @@
+//! The tree.
+
+ghost use Rattle.std.specs.Prelude.{◌≡◌, ◌++◌, ℕ, ◌+◌, ◌<◌, ◌≤◌, List, [], ◌∷◌, All, Some, None, IfOk, IfSome, OnOk, OnErr, IsTrue, length, slice_get, true, false};
+ghost use Rattle.std.specs.Prelude.{◌==◌, not, filter, Contains};
+ghost use Rattle.std.specs.List.{list_any};
+ghost use Rattle.std.specs.Vec.{vec_capacity};
+ghost use Rattle.tree_runs.specs.Marks.{is_decided, is_relevant, entry_at};
+ghost use Rattle.tree_runs.specs.States.{claim, release};
+ghost use Rattle.tree_runs.specs.Runs.{is_busy, is_holding};
+ghost use Rattle.tree_queue.specs.Queues.{IsBestOf};
+ghost use Rattle.tree_steps.specs.Trees.{IsTree, IsAnswer, IsVerdict, held_by, state_of_tree};
+ghost use Rattle.tree_runs.specs.Shapes.{alternatives_at};
+ghost use Rattle.tree_marks.specs.TreeMarks.{Settled};
+ghost use Rattle.tree_shape.specs.Room.{HasAlternative};
+
+use crate::answers::{Claim, Root};
+use crate::journal::Journal;
+use crate::problem::Problem;
+use basics::NoMemory;
+use std::alloc::Global;
+use tree_marks::Marks;
+use tree_queue::{Entry, Queue};
+use tree_shape::Shape;
+
+/// A node that a seat holds.
+#[derive(Clone, Copy)]
+pub struct Holding {
+    pub seat: u32,
+    pub entry: Entry,
+}
+
+/// A search tree.
+#[derive(Drop)]
+pub struct Tree<P: Problem> {
+    root: P::Node,
+    others: Vec<P::Node>,
+    shape: Shape,
+    marks: Marks,
+    queue: Queue,
+    journal: Journal,
+    held: Vec<Holding>,
+    commits: u32,
+    budget: u32,
+}
+
+impl<P: Problem> Tree<P> {
+    /// A tree with its root alone. The budget is at least 1.
+    pub fn start(
+        alloc: Global,
+        problem: &P,
+        root: P::Node,
+        budget: u32,
+    ) -> Result<Tree<P>, NoMemory>
+        requires budget { 0 < budget }
+        requires own { P.is_own problem.now root }
+        ensures tree { IfOk result (IsTree (P.branches problem.now) (P.seen problem.now) (P.is_own problem.now)) }
+        ensures journal { IfOk result (λ tree. tree.journal.events ≡ []) }
+    {
+        let _known = problem;
+        let shape = Shape::new(alloc)?;
+        let marks = Marks::new(alloc)?;
+        let mut queue = Queue::new(alloc);
+        queue.reserve(1)?;
+        queue.put(
+            &shape,
+            Entry {
+                node: 0,
+                depth: 0,
+                priority: 1_000_000_000_000_000_000,
+            },
+        );
+        Ok(Tree {
+            root,
+            others: Vec::new(alloc),
+            shape,
+            marks,
+            queue,
+            journal: Journal::new(alloc),
+            held: Vec::new(alloc),
+            commits: 0,
+            budget,
+        })
+    }
+
+    /// Claims the best node for a seat that holds nothing, and answers its number and an equal copy of its content. `Decided` comes exactly
+    /// where the root is decided, `Spent` where it is undecided and as many nodes as the budget are committed or held, and `Idle` where
+    /// neither holds and no node is open and relevant. These change nothing, nor does a refusal for want of memory.
+    pub fn claim(&mut self, problem: &P, seat: u32) -> Result<Claim<P::Node>, NoMemory>
+        requires tree { IsTree (P.branches problem.now) (P.seen problem.now) (P.is_own problem.now) self.old }
+        requires idle { is_busy (state_of_tree (P.branches problem.now) (P.seen problem.now) (P.is_own problem.now) self.old) seat ≡ false }
+        ensures tree { IsTree (P.branches problem.now) (P.seen problem.now) (P.is_own problem.now) self.new }
+        ensures answer { IfOk result (IsAnswer (P.branches problem.now) (P.seen problem.now) (P.is_own problem.now) self.old self.new seat) }
+        ensures err { OnErr result (self.new.journal.events ≡ self.old.journal.events) }
+        ensures root { self.new.root ≡ self.old.root }
+        ensures budget { self.new.budget ≡ self.old.budget }
+    {
+        if self.marks.proved(0) || self.marks.stuck(0) {
+            return Ok(Claim::Decided);
+        }
+        if self.commits as usize + self.held.len() >= self.budget as usize {
+            return Ok(Claim::Spent(self.held.len() as u32));
+        }
+        let Some(entry) = self.queue.best(&self.shape, &self.marks) else {
+            return Ok(Claim::Idle(self.held.len() as u32));
+        };
+        let content = problem.copy(node_at(&self.root, self.others.as_slice(), entry.node))?;
+        self.take_first(problem, seat, entry)?;
+        Ok(Claim::Take(entry.node, content))
+    }
+
+    // Gives the first node of the queue, which is the best, to a seat. All growths come first.
+    fn take_first(&mut self, problem: &P, seat: u32, entry: Entry) -> Result<(), NoMemory>
+        requires tree { IsTree (P.branches problem.now) (P.seen problem.now) (P.is_own problem.now) self.old }
+        requires idle { is_busy (state_of_tree (P.branches problem.now) (P.seen problem.now) (P.is_own problem.now) self.old) seat ≡ false }
+        requires undecided { is_decided (state_of_tree (P.branches problem.now) (P.seen problem.now) (P.is_own problem.now) self.old).shape 0 ≡ false }
+        requires few { length (state_of_tree (P.branches problem.now) (P.seen problem.now) (P.is_own problem.now) self.old).committed
+            + length (state_of_tree (P.branches problem.now) (P.seen problem.now) (P.is_own problem.now) self.old).held < self.old.budget }
+        requires first { slice_get self.old.queue.entries 0 ≡ Some entry }
+        requires relevant { is_relevant (state_of_tree (P.branches problem.now) (P.seen problem.now) (P.is_own problem.now) self.old).shape entry.node ≡ true }
+        requires best { IsBestOf (state_of_tree (P.branches problem.now) (P.seen problem.now) (P.is_own problem.now) self.old).shape self.old.queue.entries entry }
+        ensures tree { IsTree (P.branches problem.now) (P.seen problem.now) (P.is_own problem.now) self.new }
+        ensures ok { OnOk result (self.new.journal.events ≡ self.old.journal.events ++ claim seat entry.node ∷ []) }
+        ensures err { OnErr result (self.new.journal.events ≡ self.old.journal.events) }
+        ensures root { self.new.root ≡ self.old.root }
+        ensures budget { self.new.budget ≡ self.old.budget }
+    {
+        let _known = problem;
+        self.journal.reserve(self.held.len() + 2, 0)?;
+        self.held.reserve(1)?;
+        self.queue.take(&self.shape);
+        put_holding(&mut self.held, Holding { seat, entry });
+        self.journal.add_claim(seat, entry.node);
+        Ok(())
+    }
+}
+
+impl<P: Problem> Tree<P> {
+    /// Gives back the node that a seat holds, which then is open again. It takes no memory.
+    pub fn release(&mut self, problem: &P, node: u32, seat: u32)
+        requires tree { IsTree (P.branches problem.now) (P.seen problem.now) (P.is_own problem.now) self.old }
+        requires holds { is_holding (state_of_tree (P.branches problem.now) (P.seen problem.now) (P.is_own problem.now) self.old) seat node ≡ true }
+        ensures tree { IsTree (P.branches problem.now) (P.seen problem.now) (P.is_own problem.now) self.new }
+        ensures journal { self.new.journal.events ≡ self.old.journal.events ++ release seat node ∷ [] }
+        ensures root { self.new.root ≡ self.old.root }
+        ensures budget { self.new.budget ≡ self.old.budget }
+    {
+        let _known = problem;
+        let entry = held_entry(self.held.as_slice(), seat);
+        drop_seat(&mut self.held, seat);
+        self.queue.put(&self.shape, entry);
+        self.journal.add_release(seat, node);
+    }
+}
+
+impl<P: Problem> Tree<P> {
+    /// What is known of the root.
+    pub fn verdict(&self) -> Root
+        requires marks { Settled self.now.shape.shape self.now.marks.marks }
+        ensures { IsVerdict self.now.shape.shape result }
+    {
+        let _count = self.shape.len();
+        if self.marks.proved(0) {
+            Root::Proved
+        } else if self.marks.stuck(0) {
+            Root::Stuck
+        } else {
+            Root::Undecided
+        }
+    }
+
+    /// The events of the tree, in order.
+    pub fn journal(&self) -> &Journal
+        ensures { result.now ≡ self.now.journal }
+    {
+        &self.journal
+    }
+
+    /// The node that a seat holds, and nothing where it holds none.
+    pub fn held(&self, seat: u32) -> Option<u32>
+        ensures { result ≡ held_by self.now.held.items seat }
+    {
+        held_node(self.held.as_slice(), seat)
+    }
+
+    /// The number of the first child of an alternative that a committed node has, 0 where it has none, and how many children it has.
+    pub fn children(&self, node: u32, alternative: u32) -> (u32, u32)
+        requires { HasAlternative self.now.shape.shape node alternative }
+        ensures { entry_at (alternatives_at self.now.shape.shape node) alternative ≡ Some result }
+    {
+        self.shape.children(node, alternative)
+    }
+}
+
+// The node that a seat holds.
+fn held_node(held: &[Holding], seat: u32) -> Option<u32>
+    ensures { result ≡ held_by held.now seat }
+{
+    held.iter()
+        .find(|holding| holding.seat == seat)
+        .map(|holding| holding.entry.node)
+}
+
+// The entry of the node that a seat holds.
+fn held_entry(held: &[Holding], seat: u32) -> Entry
+    requires { list_any (λ holding. holding.seat == seat) held.now ≡ true }
+    ensures { Contains held.now (record { seat = seat; entry = result }) }
+{
+    for holding in held {
+        if holding.seat == seat {
+            return holding.entry;
+        }
+    }
+    unreachable!()
+}
+
+// Takes away what a seat holds.
+fn drop_seat(held: &mut Vec<Holding>, seat: u32)
+    ensures { held.new.items ≡ filter (λ holding. not (holding.seat == seat)) held.old.items }
+{
+    held.retain(|holding| holding.seat != seat);
+}
+
+// The content of a node.
+fn node_at<'a, N>(root: &'a N, others: &'a [N], node: u32) -> &'a N
+    requires { node < length others.now + 1 }
+    ensures { Some result.now ≡ slice_get (root.now ∷ others.now) node }
+{
+    if node == 0 {
+        root
+    } else {
+        &others[node as usize - 1]
+    }
+}
+
+// Puts a holding first, where there is room for it.
+fn put_holding(held: &mut Vec<Holding>, holding: Holding)
+    requires { length held.old.items < vec_capacity held.old }
+    ensures { held.new.items ≡ holding ∷ held.old.items }
+{
+    match held.insert(0, holding) {
+        Ok(()) => {}
+        Err(_) => unreachable!(),
+    }
+}
