@@ -8,3 +8,4 @@ pub mod Spines
 pub mod Under
 pub mod Families
 pub mod Openings
+pub mod ConstantShapes

@@ -7,7 +7,7 @@ ghost use Rattle.lf_definitions.specs.Substitution.{stays};
 ghost use Rattle.lf_definitions.specs.Typing.{Typed, TypedSpine};
 ghost use Rattle.lf_definitions.specs.Failures.{FailsTerm, FailsSpine};
 ghost use Rattle.lf_kernel.specs.Checks.{Walks};
-ghost use Rattle.lf_kernel.specs.Heads.{typing_at};
+ghost use Rattle.lf_kernel.specs.Heads.{typing_at, IsTypeOfConstant};
 ghost use Rattle.lf_kernel.specs.ShapedPlaces.{ShapedAt, ShapedTypeAt, ShapedBindersAt};
 ghost use Rattle.lf_kernel.specs.Results.{Gives};
 ghost use Rattle.lf_terms.specs.Putting.{Puts, ArgsShaped};
@@ -101,7 +101,7 @@ fn walk_spine<'a>(
     if args.len() != found.binders.len() {
         return Ok(Some(Ids::new(alloc)));
     }
-    let shapes = shapes_of(alloc, found.binders)?;
+    let shapes = binder_shapes(alloc, sig, head, &found)?;
     match walk_args(
         alloc,
         &*sig,
@@ -121,6 +121,25 @@ fn walk_spine<'a>(
                 Ok(Some(Ids::new(alloc)))
             }
         }
+    }
+}
+
+// The shapes of the binders of a head's type. Those of a constant's are the signature's, which are shared.
+fn binder_shapes(
+    alloc: Global,
+    sig: &Signature,
+    head: Head,
+    found: &HeadType<'_>,
+) -> Result<Shapes, NoMemory>
+    requires { IsTypeOfConstant sig.now (head_of head) found.now }
+    ensures { IfOk result (λ shapes. shapes ≡ shapes_of_types found.now.binders.now) }
+{
+    match head {
+        Head::Const(number) => {
+            let kept = sig.shapes().as_slice();
+            kept[number as usize].args.copy()
+        }
+        Head::Bound(_) | Head::Meta(_) => shapes_of(alloc, found.binders),
     }
 }
 

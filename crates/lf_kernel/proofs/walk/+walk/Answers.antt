@@ -15,6 +15,7 @@ use Rattle.lf_kernel.specs.ShapedPlaces.{binders_scope}
 use Rattle.lf_kernel.proofs.Arguments.{typed_start, typed_more, typed_end, argument_fails, length-take_within}
 use Rattle.lf_kernel.proofs.Expected.{terms_and_types, shapes_and_types, shapes_of_read, puts_binder, binder_expected}
 use Rattle.lf_kernel.proofs.Spines.{lam_fails, head_fails, count_fails, argument_of_spine_fails, binders_shaped, puts_result, spine_is_typed, result_fails, gives_it, gives_another}
+use Rattle.lf_kernel.proofs.ConstantShapes.{known_of_constant}
 use Rattle.lf_kernel.proofs.Paths.{reverse-step, well, ill, typed_whole, fails_early, fails_under}
 use Rattle.lf_kernel.proofs.Under.{under_binders, count_of}
 use Rattle.lf_kernel.proofs.walk.+walk.Goals as goal
@@ -118,6 +119,12 @@ walk_spine-returns-then-len t c =
     let h = head_of a.head in
     count_fails Γ h c.in-Some.found (subst (λ o. seen_type o ≡ Γ h) c.in-Some.is c.in_ok-found.ensures) a.args.now a.ty.now.args a.ty.now.family c.new-then-len.result
     (λ e. c.if-len.true (c.len.ensures ∙ e ∙ sym c.len-2.ensures)) c.new-then-len.ensures
+
+pub walk_spine-binder_shapes-requires : goal.walk_spine-binder_shapes-requires
+walk_spine-binder_shapes-requires t c =
+    let a = c.args in
+    let h = head_of a.head in
+    known_of_constant a.sig.now a.metas.now a.scope.now h c.in-Some.found (subst (λ o. seen_type o ≡ typing_at a.sig.now a.metas.now a.scope.now h) c.in-Some.is c.in_ok-found.ensures)
 
 pub walk_spine-walk_args-requires : goal.walk_spine-walk_args-requires
 walk_spine-walk_args-requires t c =
