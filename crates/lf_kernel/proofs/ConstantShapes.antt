@@ -3,7 +3,7 @@ use Rattle.std.proofs.Common.{◌≡◌, ℕ, zero, suc, ◌<◌, Option, Some, 
 use Rattle.lf_definitions.specs.Syntax.{LfHead, constant, SimpleType, LfType, arguments, shape_of, shapes_of_types}
 use Rattle.lf_definitions.specs.Renaming.{next_by, rename_type}
 use Rattle.lf_definitions.specs.Shaping.{shape_at}
-use Rattle.lf_definitions.specs.Typing.{LfGoal, type_at, typed_globals}
+use Rattle.lf_definitions.specs.Typing.{type_at, typed_globals}
 use Rattle.lf_definitions.specs.Signatures.{LfSignature, constant_types}
 use Rattle.lf_definitions.proofs.Telescopes.{arguments-arrows}
 use Rattle.lf_definitions.proofs.Types.{shape_of-rename_type}
@@ -13,12 +13,13 @@ use Rattle.lf_terms.specs.declared.shape.Shape.{Shape}
 use Rattle.lf_terms.specs.Shapes.{simple_type_of, simple_types_of}
 use Rattle.lf_terms.proofs.ShapeLists.{length-simple_types_of, shape_at-simple_types_of}
 use Rattle.lf_kernel.specs.declared.head_type.HeadType.{HeadType}
-use Rattle.lf_kernel.specs.declared.local_context.LocalContext.{LocalContext}
-use Rattle.lf_kernel.specs.Heads.{typing_at, declared_type, seen_type, IsTypeOfConstant}
+use Rattle.lf_kernel.specs.declared.place.Place.{Place}
+use Rattle.lf_kernel.specs.Heads.{typing_of, declared_type, seen_type}
 use Rattle.lf_kernel.proofs.Heads.{typing_under-constant}
 
-pub known_of_constant : (sig : LfSignature) (goals : List LfGoal) (scope : LocalContext) (h : LfHead) (found : HeadType) → seen_type (Some found) ≡ typing_at sig goals scope h → IsTypeOfConstant sig h found
-known_of_constant sig goals scope h found known c is = known ∙ ap (typing_at sig goals scope) is ∙ typing_under-constant scope (typed_globals (constant_types sig) goals) c
+-- the type of a head that is a constant
+pub known_of_constant : (p : Place) (h : LfHead) (c : ℕ) (found : HeadType) → seen_type (Some found) ≡ typing_of p h → h ≡ constant c → seen_type (Some found) ≡ type_at (constant_types p.sig.now) c
+known_of_constant p h c found known is = known ∙ ap (typing_of p) is ∙ typing_under-constant p.scope.now (typed_globals (constant_types p.sig.now) p.metas.now) c
 
 within : (types : List LfType) (c : ℕ) (a : LfType) → ◌≡◌ {A = Option LfType} (Some a) (type_at types c) → c < length (shapes_of_types types)
 within [] c a e = absurd cc

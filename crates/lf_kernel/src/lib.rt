@@ -9,6 +9,7 @@ mod answer;
 pub mod head_type;
 pub mod local_context;
 mod path;
+mod place;
 mod sig_fault;
 mod stripping;
 pub mod typing;

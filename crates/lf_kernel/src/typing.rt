@@ -9,6 +9,7 @@ ghost use Rattle.lf_terms.specs.Types.{type_of};
 
 use crate::answer::{Check, answer_of};
 use crate::local_context::LocalContext;
+use crate::place::Place;
 use crate::walk::walk_term;
 use crate::walk_type::{walk_binders, walk_type};
 use basics::NoMemory;
@@ -34,14 +35,14 @@ pub fn check(
     sig.is_formed();
     let closed = LocalContext::Closed;
     let types = ctx.as_slice();
-    let found = walk_term(
+    let scope = LocalContext::Under(types, &closed);
+    let place = Place {
         alloc,
         sig,
         metas,
-        &LocalContext::Under(types, &closed),
-        term,
-        ty,
-    )?;
+        scope: &scope,
+    };
+    let found = walk_term(&place, term, ty)?;
     Ok(answer_of(found))
 }
 
@@ -60,7 +61,14 @@ pub fn check_type(
     sig.is_formed();
     let closed = LocalContext::Closed;
     let types = ctx.as_slice();
-    let found = walk_type(alloc, sig, metas, &LocalContext::Under(types, &closed), ty)?;
+    let scope = LocalContext::Under(types, &closed);
+    let place = Place {
+        alloc,
+        sig,
+        metas,
+        scope: &scope,
+    };
+    let found = walk_type(&place, ty)?;
     Ok(answer_of(found))
 }
 
@@ -70,7 +78,13 @@ pub fn check_kind(alloc: Global, sig: &Signature, kind: &Kind) -> Result<Check, 
 {
     sig.is_formed();
     let metas = GoalList::new(alloc);
+    let place = Place {
+        alloc,
+        sig,
+        metas: &metas,
+        scope: &LocalContext::Closed,
+    };
     let binders = kind.binders.as_slice();
-    let found = walk_binders(alloc, sig, &metas, &LocalContext::Closed, binders)?;
+    let found = walk_binders(&place, binders)?;
     Ok(answer_of(found))
 }

@@ -1,13 +1,13 @@
 //! The walk over a term: from left to right, down to the first failure.
 
-ghost use Rattle.std.specs.Prelude.{◌≡◌, IfOk, List, length};
+ghost use Rattle.std.specs.Prelude.{◌≡◌, IfOk, List, Some, length};
 ghost use Rattle.lf_definitions.specs.Syntax.{family, args_count, at, shapes_of_types};
 ghost use Rattle.lf_definitions.specs.Renaming.{next_by, rename_context};
 ghost use Rattle.lf_definitions.specs.Substitution.{stays};
 ghost use Rattle.lf_definitions.specs.Typing.{Typed, TypedSpine};
 ghost use Rattle.lf_definitions.specs.Failures.{FailsTerm, FailsSpine};
 ghost use Rattle.lf_kernel.specs.Checks.{Walks};
-ghost use Rattle.lf_kernel.specs.Heads.{typing_at, IsTypeOfConstant};
+ghost use Rattle.lf_kernel.specs.Heads.{typing_of, seen_type};
 ghost use Rattle.lf_kernel.specs.ShapedPlaces.{ShapedAt, ShapedTypeAt, ShapedBindersAt};
 ghost use Rattle.lf_kernel.specs.Results.{Gives};
 ghost use Rattle.lf_terms.specs.Putting.{Puts, ArgsShaped};
@@ -17,44 +17,40 @@ ghost use Rattle.lf_terms.specs.Types.{type_of};
 use crate::head_type::{HeadType, type_of_head};
 use crate::local_context::LocalContext;
 use crate::path::{step, under};
+use crate::place::Place;
 use crate::stripping::body_under;
 use basics::{Ids, NoMemory};
 use lf_terms::same::same_terms;
 use lf_terms::shape_of::shapes_of;
 use lf_terms::subst::{put_all, put_type};
-use lf_terms::{GoalList, Head, Shapes, Signature, Term, Terms, Ty, Tys};
+use lf_terms::{Head, Shapes, Term, Terms, Ty, Tys};
 use std::alloc::Global;
 
 // Whether a term has a type, or the path at which it fails.
 #[cycle(walk)]
 pub fn walk_term<'a>(
-    alloc: Global,
-    sig: &'a Signature,
-    metas: &'a GoalList,
-    scope: &'a LocalContext<'a>,
+    place: &'a Place<'a>,
     term: &'a Term,
     ty: &'a Ty,
 ) -> Result<Option<Ids>, NoMemory>
-    requires typing { ShapedAt sig.now metas.now scope.now }
-    requires shaped { ShapedTypeAt sig.now metas.now scope.now (type_of ty.now) }
-    ensures { IfOk result (λ r. Walks (Typed (typing_at sig.now metas.now scope.now) (term_of term.now) (type_of ty.now)) (FailsTerm (typing_at sig.now metas.now scope.now) (term_of term.now) (type_of ty.now)) r) }
+    requires typing { ShapedAt place.now }
+    requires shaped { ShapedTypeAt place.now (type_of ty.now) }
+    ensures { IfOk result (λ r. Walks (Typed (typing_of place.now) (term_of term.now) (type_of ty.now)) (FailsTerm (typing_of place.now) (term_of term.now) (type_of ty.now)) r) }
 {
     let binders = ty.binders.as_slice();
     let count = binders.len();
     if count == 0 {
-        return walk_body(alloc, sig, metas, scope, term, ty);
+        return walk_body(place, term, ty);
     }
     match body_under(term, count) {
-        Err(depth) => Ok(Some(under(Ids::new(alloc), depth)?)),
+        Err(depth) => Ok(Some(under(Ids::new(place.alloc), depth)?)),
         Ok(body) => {
-            match walk_body(
-                alloc,
-                sig,
-                metas,
-                &LocalContext::Under(binders, scope),
-                body,
-                ty,
-            )? {
+            let scope = LocalContext::Under(binders, place.scope);
+            let inside = Place {
+                scope: &scope,
+                ..*place
+            };
+            match walk_body(&inside, body, ty)? {
                 None => Ok(None),
                 Some(path) => Ok(Some(under(path, count)?)),
             }
@@ -64,82 +60,57 @@ pub fn walk_term<'a>(
 
 // The same for what is under the binders of the type.
 #[cycle(walk)]
-fn walk_body<'a>(
-    alloc: Global,
-    sig: &'a Signature,
-    metas: &'a GoalList,
-    scope: &'a LocalContext<'a>,
-    body: &'a Term,
-    ty: &'a Ty,
-) -> Result<Option<Ids>, NoMemory>
-    requires typing { ShapedAt sig.now metas.now scope.now }
-    ensures { IfOk result (λ r. Walks (Typed (typing_at sig.now metas.now scope.now) (term_of body.now) (family ty.now.family ty.now.args)) (FailsTerm (typing_at sig.now metas.now scope.now) (term_of body.now) (family ty.now.family ty.now.args)) r) }
+fn walk_body<'a>(place: &'a Place<'a>, body: &'a Term, ty: &'a Ty) -> Result<Option<Ids>, NoMemory>
+    requires typing { ShapedAt place.now }
+    ensures { IfOk result (λ r. Walks (Typed (typing_of place.now) (term_of body.now) (family ty.now.family ty.now.args)) (FailsTerm (typing_of place.now) (term_of body.now) (family ty.now.family ty.now.args)) r) }
 {
     match body {
-        Term::Lam(_) => Ok(Some(Ids::new(alloc))),
-        Term::At(head, args) => walk_spine(alloc, sig, metas, scope, *head, args, ty),
+        Term::Lam(_) => Ok(Some(Ids::new(place.alloc))),
+        Term::At(head, args) => walk_spine(place, *head, args, ty),
     }
 }
 
 // The same for a head with its arguments.
 #[cycle(walk)]
 fn walk_spine<'a>(
-    alloc: Global,
-    sig: &'a Signature,
-    metas: &'a GoalList,
-    scope: &'a LocalContext<'a>,
+    place: &'a Place<'a>,
     head: Head,
     args: &'a Terms,
     ty: &'a Ty,
 ) -> Result<Option<Ids>, NoMemory>
-    requires typing { ShapedAt sig.now metas.now scope.now }
-    ensures { IfOk result (λ r. Walks (Typed (typing_at sig.now metas.now scope.now) (at (head_of head) args.now) (family ty.now.family ty.now.args)) (FailsTerm (typing_at sig.now metas.now scope.now) (at (head_of head) args.now) (family ty.now.family ty.now.args)) r) }
+    requires typing { ShapedAt place.now }
+    ensures { IfOk result (λ r. Walks (Typed (typing_of place.now) (at (head_of head) args.now) (family ty.now.family ty.now.args)) (FailsTerm (typing_of place.now) (at (head_of head) args.now) (family ty.now.family ty.now.args)) r) }
 {
-    let Some(found) = type_of_head(sig, metas, scope, head)? else {
-        return Ok(Some(Ids::new(alloc)));
+    let Some(found) = type_of_head(place.sig, place.metas, place.scope, head)? else {
+        return Ok(Some(Ids::new(place.alloc)));
     };
     if args.len() != found.binders.len() {
-        return Ok(Some(Ids::new(alloc)));
+        return Ok(Some(Ids::new(place.alloc)));
     }
-    let shapes = binder_shapes(alloc, sig, head, &found)?;
-    match walk_args(
-        alloc,
-        &*sig,
-        &*metas,
-        &*scope,
-        &*found.binders,
-        &shapes,
-        found.raise,
-        &*args,
-        0,
-    )? {
+    let shapes = binder_shapes(place, head, &found)?;
+    match walk_args(&*place, &*found.binders, &shapes, found.raise, &*args, 0)? {
         Some(path) => Ok(Some(path)),
         None => {
-            if gives(alloc, &found, &shapes, args, ty)? {
+            if gives(place.alloc, &found, &shapes, args, ty)? {
                 Ok(None)
             } else {
-                Ok(Some(Ids::new(alloc)))
+                Ok(Some(Ids::new(place.alloc)))
             }
         }
     }
 }
 
 // The shapes of the binders of a head's type. Those of a constant's are the signature's, which are shared.
-fn binder_shapes(
-    alloc: Global,
-    sig: &Signature,
-    head: Head,
-    found: &HeadType<'_>,
-) -> Result<Shapes, NoMemory>
-    requires { IsTypeOfConstant sig.now (head_of head) found.now }
+fn binder_shapes(place: &Place<'_>, head: Head, found: &HeadType<'_>) -> Result<Shapes, NoMemory>
+    requires { seen_type (Some found.now) ≡ typing_of place.now (head_of head) }
     ensures { IfOk result (λ shapes. shapes ≡ shapes_of_types found.now.binders.now) }
 {
     match head {
         Head::Const(number) => {
-            let kept = sig.shapes().as_slice();
+            let kept = place.sig.shapes().as_slice();
             kept[number as usize].args.copy()
         }
-        Head::Bound(_) | Head::Meta(_) => shapes_of(alloc, found.binders),
+        Head::Bound(_) | Head::Meta(_) => shapes_of(place.alloc, found.binders),
     }
 }
 
@@ -147,28 +118,25 @@ fn binder_shapes(
 // of them is this child.
 #[cycle(walk)]
 pub fn walk_args<'a>(
-    alloc: Global,
-    sig: &'a Signature,
-    metas: &'a GoalList,
-    scope: &'a LocalContext<'a>,
+    place: &'a Place<'a>,
     binders: &'a Tys,
     shapes: &'a Shapes,
     raise: u32,
     args: &'a Terms,
     first: usize,
 ) -> Result<Option<Ids>, NoMemory>
-    requires typing { ShapedAt sig.now metas.now scope.now }
-    requires shaped { ShapedBindersAt sig.now metas.now scope.now raise binders.now }
+    requires typing { ShapedAt place.now }
+    requires shaped { ShapedBindersAt place.now raise binders.now }
     requires shapes { shapes.now ≡ shapes_of_types binders.now }
     requires count { args_count args.now ≡ length binders.now }
-    ensures { IfOk result (λ r. Walks (TypedSpine (typing_at sig.now metas.now scope.now) stays args.now (rename_context (next_by raise) binders.now)) (FailsSpine (typing_at sig.now metas.now scope.now) stays args.now (rename_context (next_by raise) binders.now) first) r) }
+    ensures { IfOk result (λ r. Walks (TypedSpine (typing_of place.now) stays args.now (rename_context (next_by raise) binders.now)) (FailsSpine (typing_of place.now) stays args.now (rename_context (next_by raise) binders.now) first) r) }
 {
     let terms = args.as_slice();
     let types = binders.as_slice();
     let shapes = shapes.as_slice();
     for i in 0..terms.len() {
-        let ty = put_type(alloc, &shapes[..i], &terms[..i], raise, &types[i])?;
-        match walk_term(alloc, &*sig, &*metas, &*scope, &terms[i], &ty)? {
+        let ty = put_type(place.alloc, &shapes[..i], &terms[..i], raise, &types[i])?;
+        match walk_term(&*place, &terms[i], &ty)? {
             None => {}
             Some(path) => {
                 if first > usize::MAX - i {

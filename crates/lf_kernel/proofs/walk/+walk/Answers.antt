@@ -10,12 +10,11 @@ use Rattle.lf_terms.specs.Terms.{head_of, term_of}
 use Rattle.lf_terms.specs.Types.{type_of, types_of}
 use Rattle.lf_terms.proofs.Spines.{item_size}
 use Rattle.lf_terms.proofs.Abstractions.{term_size-lams}
-use Rattle.lf_kernel.specs.Heads.{typing_at, seen_type}
+use Rattle.lf_kernel.specs.Heads.{typing_of, seen_type}
 use Rattle.lf_kernel.specs.ShapedPlaces.{binders_scope}
 use Rattle.lf_kernel.proofs.Arguments.{typed_start, typed_more, typed_end, argument_fails, length-take_within}
 use Rattle.lf_kernel.proofs.Expected.{terms_and_types, shapes_and_types, shapes_of_read, puts_binder, binder_expected}
 use Rattle.lf_kernel.proofs.Spines.{lam_fails, head_fails, count_fails, argument_of_spine_fails, binders_shaped, puts_result, spine_is_typed, result_fails, gives_it, gives_another}
-use Rattle.lf_kernel.proofs.ConstantShapes.{known_of_constant}
 use Rattle.lf_kernel.proofs.Paths.{reverse-step, well, ill, typed_whole, fails_early, fails_under}
 use Rattle.lf_kernel.proofs.Under.{under_binders, count_of}
 use Rattle.lf_kernel.proofs.walk.+walk.Goals as goal
@@ -23,7 +22,7 @@ use Rattle.lf_kernel.proofs.walk.+walk.Goals as goal
 pub walk_args-loop-i-init : goal.walk_args-loop-i-init
 walk_args-loop-i-init t c =
     let a = c.args in
-    typed_start (typing_at a.sig.now a.metas.now a.scope.now) (next_by a.raise) c.as_slice-terms.result.now c.as_slice-types.result.now
+    typed_start (typing_of a.place.now) (next_by a.raise) c.as_slice-terms.result.now c.as_slice-types.result.now
 
 pub walk_args-slice_bounds-put_type-end : goal.walk_args-slice_bounds-put_type-end
 walk_args-slice_bounds-put_type-end t c =
@@ -40,18 +39,18 @@ walk_args-bounds-types-i t c =
 pub walk_args-put_type-requires : goal.walk_args-put_type-requires
 walk_args-put_type-requires t c =
     let a = c.args in
-    let Γ = typing_at a.sig.now a.metas.now a.scope.now in
+    let Γ = typing_of a.place.now in
     let terms = c.as_slice-terms.result.now in
     let types = c.as_slice-types.result.now in
     let lengths = terms_and_types terms types a.args.now a.binders.now c.as_slice-terms.ensures c.as_slice-types.ensures c.requires.count in
     let shapes = shapes_of_read c.as_slice-shapes.result.now types a.shapes.now a.binders.now c.as_slice-shapes.ensures c.as_slice-types.ensures c.requires.shapes in
-    puts_binder (kind_shapes_in a.sig.now) Γ a.raise terms types c.as_slice-shapes.result.now c.loop-i.i c.index-types-i.result (omega (arith, c.loop-i-test.true)) c.index-types-i.is shapes
-    (subst (ShapedContext (kind_shapes_in a.sig.now) (binders_scope Γ a.raise)) (sym c.as_slice-types.ensures) c.requires.shaped) c.loop-i.invariant
+    puts_binder (kind_shapes_in a.place.now.sig.now) Γ a.raise terms types c.as_slice-shapes.result.now c.loop-i.i c.index-types-i.result (omega (arith, c.loop-i-test.true)) c.index-types-i.is shapes
+    (subst (ShapedContext (kind_shapes_in a.place.now.sig.now) (binders_scope Γ a.raise)) (sym c.as_slice-types.ensures) c.requires.shaped) c.loop-i.invariant
 
 pub walk_args-walk_term-requires : goal.walk_args-walk_term-requires
 walk_args-walk_term-requires t c =
     let a = c.args in
-    let Γ = typing_at a.sig.now a.metas.now a.scope.now in
+    let Γ = typing_of a.place.now in
     let terms = c.as_slice-terms.result.now in
     let types = c.as_slice-types.result.now in
     let lengths = terms_and_types terms types a.args.now a.binders.now c.as_slice-terms.ensures c.as_slice-types.ensures c.requires.count in
@@ -59,15 +58,15 @@ walk_args-walk_term-requires t c =
       omega (arith, c.decreases, ap spine_size c.as_slice-terms.ensures, item_size terms c.loop-i.i c.index-terms-i.result c.loop-i-test.true c.index-terms-i.is),
       (
         c.requires.typing,
-        binder_expected (kind_shapes_in a.sig.now) Γ a.raise terms types c.as_slice-shapes.result.now c.loop-i.i c.index-types-i.result (type_of c.in_ok-ty.ty) (omega (arith, c.loop-i-test.true)) c.index-types-i.is shapes
-            (subst (ShapedContext (kind_shapes_in a.sig.now) (binders_scope Γ a.raise)) (sym c.as_slice-types.ensures) c.requires.shaped) c.loop-i.invariant c.in_ok-ty.ensures.result,
+        binder_expected (kind_shapes_in a.place.now.sig.now) Γ a.raise terms types c.as_slice-shapes.result.now c.loop-i.i c.index-types-i.result (type_of c.in_ok-ty.ty) (omega (arith, c.loop-i-test.true)) c.index-types-i.is shapes
+            (subst (ShapedContext (kind_shapes_in a.place.now.sig.now) (binders_scope Γ a.raise)) (sym c.as_slice-types.ensures) c.requires.shaped) c.loop-i.invariant c.in_ok-ty.ensures.result,
       ),
     )
 
 pub walk_args-returns-in-Some : goal.walk_args-returns-in-Some
 walk_args-returns-in-Some t c =
     let a = c.args in
-    let Γ = typing_at a.sig.now a.metas.now a.scope.now in
+    let Γ = typing_of a.place.now in
     let terms = c.as_slice-terms.result.now in
     let types = c.as_slice-types.result.now in
     let x = c.index-terms-i.result in
@@ -82,7 +81,7 @@ walk_args-returns-in-Some t c =
 pub walk_args-loop-i-preserved : goal.walk_args-loop-i-preserved
 walk_args-loop-i-preserved t c =
     let a = c.args in
-    let Γ = typing_at a.sig.now a.metas.now a.scope.now in
+    let Γ = typing_of a.place.now in
     let terms = c.as_slice-terms.result.now in
     let types = c.as_slice-types.result.now in
     let x = c.index-terms-i.result in
@@ -94,7 +93,7 @@ walk_args-loop-i-preserved t c =
 pub walk_args-returns : goal.walk_args-returns
 walk_args-returns t c =
     let a = c.args in
-    let Γ = typing_at a.sig.now a.metas.now a.scope.now in
+    let Γ = typing_of a.place.now in
     let terms = c.as_slice-terms.result.now in
     let types = c.as_slice-types.result.now in
     let lengths = terms_and_types terms types a.args.now a.binders.now c.as_slice-terms.ensures c.as_slice-types.ensures c.requires.count in
@@ -104,18 +103,18 @@ walk_args-returns t c =
 pub walk_body-returns-in-Lam : goal.walk_body-returns-in-Lam
 walk_body-returns-in-Lam t c =
     let a = c.args in
-    lam_fails (typing_at a.sig.now a.metas.now a.scope.now) (term_of a.body.now) c.in-Lam.field-0 a.ty.now.family a.ty.now.args c.new.result (ap term_of c.in-Lam.is) c.new.ensures
+    lam_fails (typing_of a.place.now) (term_of a.body.now) c.in-Lam.field-0 a.ty.now.family a.ty.now.args c.new.result (ap term_of c.in-Lam.is) c.new.ensures
 
 pub walk_spine-returns-in_default : goal.walk_spine-returns-in_default
 walk_spine-returns-in_default t c =
     let a = c.args in
-    let Γ = typing_at a.sig.now a.metas.now a.scope.now in
+    let Γ = typing_of a.place.now in
     head_fails Γ (head_of a.head) a.args.now a.ty.now.args a.ty.now.family c.new.result (subst (λ o. seen_type o ≡ Γ (head_of a.head)) c.in_default.is c.in_ok-found.ensures) c.new.ensures
 
 pub walk_spine-returns-then-len : goal.walk_spine-returns-then-len
 walk_spine-returns-then-len t c =
     let a = c.args in
-    let Γ = typing_at a.sig.now a.metas.now a.scope.now in
+    let Γ = typing_of a.place.now in
     let h = head_of a.head in
     count_fails Γ h c.in-Some.found (subst (λ o. seen_type o ≡ Γ h) c.in-Some.is c.in_ok-found.ensures) a.args.now a.ty.now.args a.ty.now.family c.new-then-len.result
     (λ e. c.if-len.true (c.len.ensures ∙ e ∙ sym c.len-2.ensures)) c.new-then-len.ensures
@@ -123,19 +122,18 @@ walk_spine-returns-then-len t c =
 pub walk_spine-binder_shapes-requires : goal.walk_spine-binder_shapes-requires
 walk_spine-binder_shapes-requires t c =
     let a = c.args in
-    let h = head_of a.head in
-    known_of_constant a.sig.now a.metas.now a.scope.now h c.in-Some.found (subst (λ o. seen_type o ≡ typing_at a.sig.now a.metas.now a.scope.now h) c.in-Some.is c.in_ok-found.ensures)
+    subst (λ o. seen_type o ≡ typing_of a.place.now (head_of a.head)) c.in-Some.is c.in_ok-found.ensures
 
 pub walk_spine-walk_args-requires : goal.walk_spine-walk_args-requires
 walk_spine-walk_args-requires t c =
     let a = c.args in
-    let Γ = typing_at a.sig.now a.metas.now a.scope.now in
+    let Γ = typing_of a.place.now in
     let h = head_of a.head in (
       omega (arith, c.decreases),
       (
         c.requires.typing,
         (
-          binders_shaped Γ h c.in-Some.found (subst (λ o. seen_type o ≡ Γ h) c.in-Some.is c.in_ok-found.ensures) (kinds_in a.sig.now) c.requires.typing,
+          binders_shaped Γ h c.in-Some.found (subst (λ o. seen_type o ≡ Γ h) c.in-Some.is c.in_ok-found.ensures) (kinds_in a.place.now.sig.now) c.requires.typing,
           (c.in_ok-shapes.ensures, sym c.len.ensures ∙ c.if-len.false ∙ c.len-2.ensures),
         ),
       ),
@@ -144,7 +142,7 @@ walk_spine-walk_args-requires t c =
 pub walk_spine-returns-in-Some-2 : goal.walk_spine-returns-in-Some-2
 walk_spine-returns-in-Some-2 t c =
     let a = c.args in
-    let Γ = typing_at a.sig.now a.metas.now a.scope.now in
+    let Γ = typing_of a.place.now in
     let h = head_of a.head in
     let found = c.in-Some.found in
     let bs = rename_context (next_by found.raise) found.binders.now in
@@ -155,17 +153,17 @@ walk_spine-returns-in-Some-2 t c =
 pub walk_spine-gives-requires : goal.walk_spine-gives-requires
 walk_spine-gives-requires t c =
     let a = c.args in
-    let Γ = typing_at a.sig.now a.metas.now a.scope.now in
+    let Γ = typing_of a.place.now in
     let h = head_of a.head in
     let found = c.in-Some.found in
     let bs = rename_context (next_by found.raise) found.binders.now in
     let typed = well (TypedSpine Γ stays a.args.now bs) (FailsSpine Γ stays a.args.now bs 0) c.in_ok-path.field-0 c.in-None.is c.in_ok-path.ensures in
-    puts_result Γ h found (subst (λ o. seen_type o ≡ Γ h) c.in-Some.is c.in_ok-found.ensures) (kinds_in a.sig.now) a.args.now c.in_ok-shapes.shapes c.requires.typing c.in_ok-shapes.ensures typed
+    puts_result Γ h found (subst (λ o. seen_type o ≡ Γ h) c.in-Some.is c.in_ok-found.ensures) (kinds_in a.place.now.sig.now) a.args.now c.in_ok-shapes.shapes c.requires.typing c.in_ok-shapes.ensures typed
 
 pub walk_spine-returns-then-branch : goal.walk_spine-returns-then-branch
 walk_spine-returns-then-branch t c =
     let a = c.args in
-    let Γ = typing_at a.sig.now a.metas.now a.scope.now in
+    let Γ = typing_of a.place.now in
     let h = head_of a.head in
     let found = c.in-Some.found in
     let bs = rename_context (next_by found.raise) found.binders.now in
@@ -176,7 +174,7 @@ walk_spine-returns-then-branch t c =
 pub walk_spine-returns : goal.walk_spine-returns
 walk_spine-returns t c =
     let a = c.args in
-    let Γ = typing_at a.sig.now a.metas.now a.scope.now in
+    let Γ = typing_of a.place.now in
     let h = head_of a.head in
     let found = c.in-Some.found in
     let bs = rename_context (next_by found.raise) found.binders.now in
@@ -187,22 +185,22 @@ walk_spine-returns t c =
 pub walk_term-walk_body-requires-in-Ok : goal.walk_term-walk_body-requires-in-Ok
 walk_term-walk_body-requires-in-Ok t c =
     let a = c.args in
-    let Γ = typing_at a.sig.now a.metas.now a.scope.now in (
+    let Γ = typing_of a.place.now in (
       omega (arith, c.decreases, ap term_size c.in-Ok.ensures, term_size-lams (length c.as_slice-binders.result.now) (term_of c.in-Ok.body.now)),
-      under_binders (kinds_in a.sig.now) Γ c.as_slice-binders.result.now a.ty.now.binders (family a.ty.now.family a.ty.now.args) c.as_slice-binders.ensures c.requires.typing c.requires.shaped,
+      under_binders (kinds_in a.place.now.sig.now) Γ c.as_slice-binders.result.now a.ty.now.binders (family a.ty.now.family a.ty.now.args) c.as_slice-binders.ensures c.requires.typing c.requires.shaped,
     )
 
 pub walk_term-returns-in_ok-under-in-Err : goal.walk_term-returns-in_ok-under-in-Err
 walk_term-returns-in_ok-under-in-Err t c =
     let a = c.args in
     let types = c.as_slice-binders.result.now in
-    fails_early a.ty.now.binders (typing_at a.sig.now a.metas.now a.scope.now) (term_of a.term.now) (family a.ty.now.family a.ty.now.args) (length types) c.in-Err.depth c.new.result c.in_ok-under-in-Err.field-0
+    fails_early a.ty.now.binders (typing_of a.place.now) (term_of a.term.now) (family a.ty.now.family a.ty.now.args) (length types) c.in-Err.depth c.new.result c.in_ok-under-in-Err.field-0
     c.in-Err.ensures (count_of types a.ty.now.binders c.as_slice-binders.ensures) c.new.ensures c.in_ok-under-in-Err.ensures
 
 pub walk_term-returns-in-None : goal.walk_term-returns-in-None
 walk_term-returns-in-None t c =
     let a = c.args in
-    let Γ = typing_at a.sig.now a.metas.now a.scope.now in
+    let Γ = typing_of a.place.now in
     let types = c.as_slice-binders.result.now in
     let end = family a.ty.now.family a.ty.now.args in
     let b = term_of c.in-Ok.body.now in
@@ -213,7 +211,7 @@ walk_term-returns-in-None t c =
 pub walk_term-returns-in_ok-under-in-Some : goal.walk_term-returns-in_ok-under-in-Some
 walk_term-returns-in_ok-under-in-Some t c =
     let a = c.args in
-    let Γ = typing_at a.sig.now a.metas.now a.scope.now in
+    let Γ = typing_of a.place.now in
     let types = c.as_slice-binders.result.now in
     let end = family a.ty.now.family a.ty.now.args in
     let b = term_of c.in-Ok.body.now in

@@ -8,7 +8,7 @@ use Rattle.lf_definitions.proofs.ShapedGoals.{ShapedTyping-with_context, ShapedC
 use Rattle.lf_terms.specs.Types.{type_of, types_of}
 use Rattle.lf_terms.specs.TypeSizes.{binders_size}
 use Rattle.lf_terms.proofs.TypeLists.{item_size}
-use Rattle.lf_kernel.specs.Heads.{typing_at}
+use Rattle.lf_kernel.specs.Heads.{typing_of}
 use Rattle.lf_kernel.proofs.Paths.{reverse-step, well, ill}
 use Rattle.lf_kernel.proofs.Binders.{formed_more, binder_fails, FailsType-binders, type_walk}
 use Rattle.lf_kernel.proofs.walk_type.+walk_type.Goals as goal
@@ -20,14 +20,14 @@ pub walk_binders-walk_type-requires : goal.walk_binders-walk_type-requires
 walk_binders-walk_type-requires t c =
     let a = c.args in (
       omega (arith, c.decreases, item_size a.binders.now c.loop-i.i c.index-binders-i.result c.loop-i-test.true c.index-binders-i.is),
-      ShapedTyping-with_context (types_of (take c.loop-i.i a.binders.now)) (kinds_in a.sig.now) (typing_at a.sig.now a.metas.now a.scope.now) c.requires (ShapedContext-FormedContext c.loop-i.invariant),
+      ShapedTyping-with_context (types_of (take c.loop-i.i a.binders.now)) (kinds_in a.place.now.sig.now) (typing_of a.place.now) c.requires (ShapedContext-FormedContext c.loop-i.invariant),
     )
 
 pub walk_binders-returns-in-Some : goal.walk_binders-returns-in-Some
 walk_binders-returns-in-Some t c =
     let a = c.args in
-    let kinds = kinds_in a.sig.now in
-    let Γ = typing_at a.sig.now a.metas.now a.scope.now in
+    let kinds = kinds_in a.place.now.sig.now in
+    let Γ = typing_of a.place.now in
     let inside = with_context (types_of (take c.loop-i.i a.binders.now)) Γ in
     let ty = c.index-binders-i.result in
     let fails = ill (Formed kinds inside (type_of ty)) (FailsType kinds inside (type_of ty)) c.in_ok-walk_type.field-0 c.in-Some.path c.in-Some.is c.in_ok-walk_type.ensures in
@@ -37,8 +37,8 @@ walk_binders-returns-in-Some t c =
 pub walk_binders-loop-i-preserved : goal.walk_binders-loop-i-preserved
 walk_binders-loop-i-preserved t c =
     let a = c.args in
-    let kinds = kinds_in a.sig.now in
-    let Γ = typing_at a.sig.now a.metas.now a.scope.now in
+    let kinds = kinds_in a.place.now.sig.now in
+    let Γ = typing_of a.place.now in
     let inside = with_context (types_of (take c.loop-i.i a.binders.now)) Γ in
     let ty = c.index-binders-i.result in
     formed_more kinds Γ a.binders.now c.loop-i.i ty c.loop-i-test.true c.index-binders-i.is c.loop-i.invariant
@@ -52,8 +52,8 @@ walk_type-walk_binders-requires t c =
 pub walk_type-walk_family-requires : goal.walk_type-walk_family-requires
 walk_type-walk_family-requires t c =
     let a = c.args in
-    let kinds = kinds_in a.sig.now in
-    let Γ = typing_at a.sig.now a.metas.now a.scope.now in
+    let kinds = kinds_in a.place.now.sig.now in
+    let Γ = typing_of a.place.now in
     let bs = types_of c.as_slice-binders.result.now in
     ShapedTyping-with_context bs kinds Γ c.requires
     (ShapedContext-FormedContext (well (FormedContext kinds Γ bs) (FailsContextFrom kinds Γ bs 0) c.in_ok-path.field-0 c.in-None.is c.in_ok-path.ensures))
@@ -61,8 +61,8 @@ walk_type-walk_family-requires t c =
 pub walk_type-returns-in-Some : goal.walk_type-returns-in-Some
 walk_type-returns-in-Some t c =
     let a = c.args in
-    let kinds = kinds_in a.sig.now in
-    let Γ = typing_at a.sig.now a.metas.now a.scope.now in
+    let kinds = kinds_in a.place.now.sig.now in
+    let Γ = typing_of a.place.now in
     let bs = types_of c.as_slice-binders.result.now in
     let end = family a.ty.now.family a.ty.now.args in
     let fails = ill (FormedContext kinds Γ bs) (FailsContextFrom kinds Γ bs 0) c.in_ok-path.field-0 c.in-Some.path c.in-Some.is c.in_ok-path.ensures in
@@ -71,8 +71,8 @@ walk_type-returns-in-Some t c =
 pub walk_type-returns-in-None : goal.walk_type-returns-in-None
 walk_type-returns-in-None t c =
     let a = c.args in
-    let kinds = kinds_in a.sig.now in
-    let Γ = typing_at a.sig.now a.metas.now a.scope.now in
+    let kinds = kinds_in a.place.now.sig.now in
+    let Γ = typing_of a.place.now in
     let types = c.as_slice-binders.result.now in
     let end = family a.ty.now.family a.ty.now.args in
     let formed = well (FormedContext kinds Γ (types_of types)) (FailsContextFrom kinds Γ (types_of types) 0) c.in_ok-path.field-0 c.in-None.is c.in_ok-path.ensures in
