@@ -9,3 +9,4 @@ pub mod Under
 pub mod Families
 pub mod Openings
 pub mod ConstantShapes
+pub mod PlacedGoals

@@ -14,10 +14,10 @@ ghost use Rattle.lf_terms.specs.Putting.{Puts, ArgsShaped};
 ghost use Rattle.lf_terms.specs.Terms.{head_of, term_of};
 ghost use Rattle.lf_terms.specs.Types.{type_of};
 
-use crate::head_type::{HeadType, type_of_head};
+use crate::head_type::HeadType;
 use crate::local_context::LocalContext;
 use crate::path::{step, under};
-use crate::place::Place;
+use crate::place::{Place, type_at_place};
 use crate::stripping::body_under;
 use basics::{Ids, NoMemory};
 use lf_terms::same::same_terms;
@@ -81,7 +81,7 @@ fn walk_spine<'a>(
     requires typing { ShapedAt place.now }
     ensures { IfOk result (λ r. Walks (Typed (typing_of place.now) (at (head_of head) args.now) (family ty.now.family ty.now.args)) (FailsTerm (typing_of place.now) (at (head_of head) args.now) (family ty.now.family ty.now.args)) r) }
 {
-    let Some(found) = type_of_head(place.sig, place.metas, place.scope, head)? else {
+    let Some(found) = type_at_place(place, head)? else {
         return Ok(Some(Ids::new(place.alloc)));
     };
     if args.len() != found.binders.len() {
