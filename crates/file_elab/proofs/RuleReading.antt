@@ -21,7 +21,7 @@ use Rattle.rule_sets.specs.declared.rule.Builder.TheVariants.{Constructors}
 use Rattle.rule_sets.specs.declared.rule.Rule.{Rule}
 use Rattle.rule_sets.specs.declared.rule.RuleFault.{RuleFault}
 use Rattle.rule_sets.specs.declared.rule.RuleFault.TheVariants.{Taken, Full, Percent, NoConst, BadMajor, Premises, NoMemory}
-use Rattle.rule_sets.specs.Books.{Book, list_of, IsUserBuilder}
+use Rattle.rule_sets.specs.Books.{Book, list_of}
 use Rattle.rule_sets.specs.Refusals.{IsTaken, IsFull, IsNoPercent, HasNoSubject, IsBadMajor, HasBadPremises, IsRuleOver, AddsRule, IsFirstFault, taken, full, percent, no_constant, bad_major, premises, IsOver}
 use Rattle.rule_sets.proofs.FittingRules.{unlisted_past}
 use Rattle.elab_terms.specs.KnownTypes.{IsRefusal}
@@ -32,13 +32,6 @@ use Rattle.file_elab.specs.ProgramParts.{program_with, DeclaresInBook, RefusesIn
 use Rattle.file_elab.specs.Rules.{number_value, ReadsPhase, reads_norm, reads_safe, reads_unsafe, HasPhase, builder_of, family_if, listed_family, subject_of, major_value, IsMajorNumber, HasMajorPlace, ReadsRule, refuses_number, refuses_subject, refuses_major, refuses_premises}
 use Rattle.file_elab.specs.ReadRules.{names_in, tree_of, IsPhaseFor, IsSubjectFor, IsMajorFor, IsReadRule, refused_as}
 use Rattle.file_elab.proofs.MajorArguments.{major_number, no_major_number}
-
-pub user_builder : (word : BuildWord) → IsUserBuilder (builder_of word)
-user_builder words.Apply = tt
-user_builder words.Constructors = tt
-user_builder words.Cases = tt
-user_builder words.Forward = tt
-user_builder words.Destruct = tt
 
 -- A number that is no penalty, and one that is no percentage.
 abbrev IsNoPenalty : ℤ → Type 0
