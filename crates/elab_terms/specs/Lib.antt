@@ -8,3 +8,4 @@ pub mod Binding
 pub mod KnownTypes
 pub mod Domains
 pub mod ReadBinders
+pub mod Readers

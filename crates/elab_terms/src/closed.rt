@@ -14,6 +14,7 @@ use crate::elab_fault::ElabFault;
 use crate::file_text::FileText;
 use crate::read_kind::read_kind;
 use crate::read_type::read_type;
+use crate::reader::Reader;
 use file_trees::TypeTree;
 use lf_kernel::local_context::LocalContext;
 use lf_terms::{GoalList, Kind, Signature, Ty};
@@ -34,15 +35,13 @@ pub fn closed_type(
     sig.is_formed();
     let metas = GoalList::new(alloc);
     let mut names = BoundNames::new(alloc);
-    match read_type(
+    let reader = Reader {
         alloc,
         source,
         sig,
-        &metas,
-        &mut names,
-        &LocalContext::Closed,
-        tree,
-    ) {
+        metas: &metas,
+    };
+    match read_type(&reader, &mut names, &LocalContext::Closed, tree) {
         Err(fault) => Err(fault),
         Ok(ty) => Ok(ty),
     }
@@ -63,15 +62,13 @@ pub fn closed_kind(
     sig.is_formed();
     let metas = GoalList::new(alloc);
     let mut names = BoundNames::new(alloc);
-    match read_kind(
+    let reader = Reader {
         alloc,
         source,
         sig,
-        &metas,
-        &mut names,
-        &LocalContext::Closed,
-        tree,
-    ) {
+        metas: &metas,
+    };
+    match read_kind(&reader, &mut names, &LocalContext::Closed, tree) {
         Err(fault) => Err(fault),
         Ok(kind) => Ok(kind),
     }

@@ -16,6 +16,7 @@ pub mod laws;
 pub mod names;
 mod read_kind;
 mod read_type;
+mod reader;
 mod results;
 mod terms;
 mod types;

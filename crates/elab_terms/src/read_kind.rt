@@ -7,42 +7,38 @@ ghost use Rattle.lf_terms.specs.Types.{types_of};
 ghost use Rattle.file_trees.specs.Trees.{Classifier, bind};
 ghost use Rattle.file_trees.specs.TypeViews.{bindings_of, last_of};
 ghost use Rattle.elab_terms.specs.ReadBinders.{OpensKind, ReadsKindAfter, RefusesKindAfter};
-ghost use Rattle.elab_terms.specs.KnownTypes.{KnownAt, IsRefusal, typing_of};
-ghost use Rattle.elab_terms.specs.FileTexts.{text_in};
+ghost use Rattle.elab_terms.specs.KnownTypes.{KnownAt, IsRefusal};
+ghost use Rattle.elab_terms.specs.Readers.{text_of, typing_by};
 ghost use Rattle.elab_terms.specs.Types.{ReadsKind, RefusesKind};
 
 use crate::binding::{bound_name, domain};
 use crate::bound_names::BoundNames;
 use crate::elab_fault::ElabFault;
-use crate::file_text::FileText;
 use crate::read_type::read_type;
+use crate::reader::Reader;
 use file_trees::{Binder, Last, TypeTree};
 use lf_kernel::local_context::LocalContext;
-use lf_terms::{GoalList, Kind, Signature, Ty, Tys};
-use std::alloc::Global;
+use lf_terms::{Kind, Ty, Tys};
 
 /// Reads a kind. However many binders it has, it is read without recursion over them.
 pub fn read_kind<'a>(
-    alloc: Global,
-    source: &'a FileText<'a>,
-    sig: &'a Signature,
-    metas: &'a GoalList,
+    reader: &'a Reader<'a>,
     names: &mut BoundNames,
     scope: &'a LocalContext<'a>,
     tree: &'a TypeTree,
 ) -> Result<Kind, ElabFault>
-    requires cut { TokensOf source.now.bytes.now source.now.tokens.now }
-    requires closed { metas.now ≡ [] }
-    requires known { KnownAt sig.now (typing_of sig.now scope.now) names.old }
-    ensures read { IfOk result (λ kind. ReadsKind (text_in source.now) sig.now names.old (typing_of sig.now scope.now) tree.now kind.binders) }
-    ensures refused { IfErr result (IsRefusal (RefusesKind (text_in source.now) sig.now names.old (typing_of sig.now scope.now) tree.now)) }
+    requires cut { TokensOf reader.now.source.now.bytes.now reader.now.source.now.tokens.now }
+    requires closed { reader.now.metas.now ≡ [] }
+    requires known { KnownAt reader.now.sig.now (typing_by reader.now scope.now) names.old }
+    ensures read { IfOk result (λ kind. ReadsKind (text_of reader.now) reader.now.sig.now names.old (typing_by reader.now scope.now) tree.now kind.binders) }
+    ensures refused { IfErr result (IsRefusal (RefusesKind (text_of reader.now) reader.now.sig.now names.old (typing_by reader.now scope.now) tree.now)) }
     ensures names { OnOk result (names.new ≡ names.old) }
 {
-    let prefix = Vec::new(alloc);
-    match read_kind_rest(alloc, source, sig, metas, names, scope, prefix, tree) {
+    let prefix = Vec::new(reader.alloc);
+    match read_kind_rest(reader, names, scope, prefix, tree) {
         Err(fault) => Err(fault),
         Ok(types) => {
-            let binders = Tys::from_vec(alloc, types)?;
+            let binders = Tys::from_vec(reader.alloc, types)?;
             Ok(Kind { binders })
         }
     }
@@ -51,36 +47,24 @@ pub fn read_kind<'a>(
 // What comes after these binders of a kind.
 #[cycle(read_kind)]
 fn read_kind_rest<'a>(
-    alloc: Global,
-    source: &'a FileText<'a>,
-    sig: &'a Signature,
-    metas: &'a GoalList,
+    reader: &'a Reader<'a>,
     names: &mut BoundNames,
     scope: &'a LocalContext<'a>,
     prefix: Vec<Ty>,
     tree: &'a TypeTree,
 ) -> Result<Vec<Ty>, ElabFault>
-    requires cut { TokensOf source.now.bytes.now source.now.tokens.now }
-    requires closed { metas.now ≡ [] }
-    requires known { KnownAt sig.now (with_context (types_of prefix.items) (typing_of sig.now scope.now)) names.old }
-    ensures read { IfOk result (λ kind. ReadsKindAfter (text_in source.now) sig.now names.old (typing_of sig.now scope.now) (types_of prefix.items) tree.now (types_of kind.items)) }
-    ensures refused { IfErr result (IsRefusal (RefusesKindAfter (text_in source.now) sig.now names.old (typing_of sig.now scope.now) (types_of prefix.items) tree.now)) }
+    requires cut { TokensOf reader.now.source.now.bytes.now reader.now.source.now.tokens.now }
+    requires closed { reader.now.metas.now ≡ [] }
+    requires known { KnownAt reader.now.sig.now (with_context (types_of prefix.items) (typing_by reader.now scope.now)) names.old }
+    ensures read { IfOk result (λ kind. ReadsKindAfter (text_of reader.now) reader.now.sig.now names.old (typing_by reader.now scope.now) (types_of prefix.items) tree.now (types_of kind.items)) }
+    ensures refused { IfErr result (IsRefusal (RefusesKindAfter (text_of reader.now) reader.now.sig.now names.old (typing_by reader.now scope.now) (types_of prefix.items) tree.now)) }
     ensures names { OnOk result (names.new ≡ names.old) }
 {
     let depth = names.len();
     let (binders, last) = tree.parts();
-    match read_kind_binders(
-        alloc,
-        source,
-        sig,
-        metas,
-        names,
-        scope,
-        prefix,
-        binders.as_slice(),
-    ) {
+    match read_kind_binders(reader, names, scope, prefix, binders.as_slice()) {
         Err(fault) => Err(fault),
-        Ok(types) => match read_kind_last(alloc, source, sig, metas, names, scope, types, last) {
+        Ok(types) => match read_kind_last(reader, names, scope, types, last) {
             Err(fault) => Err(fault),
             Ok(kind) => {
                 names.truncate(depth);
@@ -92,35 +76,29 @@ fn read_kind_rest<'a>(
 
 // The binders of a kind, after those before.
 fn read_kind_binders<'a>(
-    alloc: Global,
-    source: &'a FileText<'a>,
-    sig: &'a Signature,
-    metas: &'a GoalList,
+    reader: &'a Reader<'a>,
     names: &mut BoundNames,
     scope: &'a LocalContext<'a>,
     prefix: Vec<Ty>,
     items: &'a [Binder],
 ) -> Result<Vec<Ty>, ElabFault>
-    requires cut { TokensOf source.now.bytes.now source.now.tokens.now }
-    requires closed { metas.now ≡ [] }
-    requires known { KnownAt sig.now (with_context (types_of prefix.items) (typing_of sig.now scope.now)) names.old }
-    ensures read { IfOk result (λ types. OpensKind (text_in source.now) sig.now names.old names.new (typing_of sig.now scope.now) (types_of prefix.items) (types_of types.items) (bindings_of items.now) []) }
-    ensures refused { IfErr result (IsRefusal (λ fault. (last : Classifier) → RefusesKindAfter (text_in source.now) sig.now names.old (typing_of sig.now scope.now) (types_of prefix.items) (bind (bindings_of items.now) last) fault)) }
+    requires cut { TokensOf reader.now.source.now.bytes.now reader.now.source.now.tokens.now }
+    requires closed { reader.now.metas.now ≡ [] }
+    requires known { KnownAt reader.now.sig.now (with_context (types_of prefix.items) (typing_by reader.now scope.now)) names.old }
+    ensures read { IfOk result (λ types. OpensKind (text_of reader.now) reader.now.sig.now names.old names.new (typing_by reader.now scope.now) (types_of prefix.items) (types_of types.items) (bindings_of items.now) []) }
+    ensures refused { IfErr result (IsRefusal (λ fault. (last : Classifier) → RefusesKindAfter (text_of reader.now) reader.now.sig.now names.old (typing_by reader.now scope.now) (types_of prefix.items) (bind (bindings_of items.now) last) fault)) }
 {
     let mut types = prefix;
     for i in 0..items.len() {
         match read_type(
-            alloc,
-            &*source,
-            &*sig,
-            &*metas,
+            &*reader,
             names,
             &LocalContext::Under(types.as_slice(), &*scope),
             domain(&items[i]),
         ) {
             Err(fault) => return Err(fault),
             Ok(ty) => {
-                names.push(alloc, bound_name(&*source, &items[i]))?;
+                names.push(reader.alloc, bound_name(reader.source, &items[i]))?;
                 types.push(ty)?;
             }
         }
@@ -131,25 +109,22 @@ fn read_kind_binders<'a>(
 // The last part of a kind, after these binders.
 #[cycle(read_kind)]
 fn read_kind_last<'a>(
-    alloc: Global,
-    source: &'a FileText<'a>,
-    sig: &'a Signature,
-    metas: &'a GoalList,
+    reader: &'a Reader<'a>,
     names: &mut BoundNames,
     scope: &'a LocalContext<'a>,
     types: Vec<Ty>,
     last: &'a Last,
 ) -> Result<Vec<Ty>, ElabFault>
-    requires cut { TokensOf source.now.bytes.now source.now.tokens.now }
-    requires closed { metas.now ≡ [] }
-    requires known { KnownAt sig.now (with_context (types_of types.items) (typing_of sig.now scope.now)) names.old }
-    ensures read { IfOk result (λ kind. ReadsKindAfter (text_in source.now) sig.now names.old (typing_of sig.now scope.now) (types_of types.items) (last_of last.now) (types_of kind.items)) }
-    ensures refused { IfErr result (IsRefusal (RefusesKindAfter (text_in source.now) sig.now names.old (typing_of sig.now scope.now) (types_of types.items) (last_of last.now))) }
+    requires cut { TokensOf reader.now.source.now.bytes.now reader.now.source.now.tokens.now }
+    requires closed { reader.now.metas.now ≡ [] }
+    requires known { KnownAt reader.now.sig.now (with_context (types_of types.items) (typing_by reader.now scope.now)) names.old }
+    ensures read { IfOk result (λ kind. ReadsKindAfter (text_of reader.now) reader.now.sig.now names.old (typing_by reader.now scope.now) (types_of types.items) (last_of last.now) (types_of kind.items)) }
+    ensures refused { IfErr result (IsRefusal (RefusesKindAfter (text_of reader.now) reader.now.sig.now names.old (typing_by reader.now scope.now) (types_of types.items) (last_of last.now))) }
     ensures names { OnOk result (names.new ≡ names.old) }
 {
     match last {
         Last::Fam(span, _) => Err(ElabFault::Unknown(span.start)),
         Last::Star(_) => Ok(types),
-        Last::Group(inner) => read_kind_rest(alloc, source, sig, metas, names, scope, types, inner),
+        Last::Group(inner) => read_kind_rest(reader, names, scope, types, inner),
     }
 }

@@ -7,41 +7,37 @@ ghost use Rattle.lf_terms.specs.Types.{type_of, types_of};
 ghost use Rattle.file_trees.specs.Trees.{Classifier, bind, family};
 ghost use Rattle.file_trees.specs.TypeViews.{bindings_of, last_of};
 ghost use Rattle.elab_terms.specs.ReadBinders.{Opens, ReadsAfter, RefusesAfter};
-ghost use Rattle.elab_terms.specs.KnownTypes.{KnownAt, IsRefusal, typing_of};
-ghost use Rattle.elab_terms.specs.FileTexts.{text_in};
+ghost use Rattle.elab_terms.specs.KnownTypes.{KnownAt, IsRefusal};
+ghost use Rattle.elab_terms.specs.Readers.{text_of, typing_by};
 ghost use Rattle.elab_terms.specs.Types.{ReadsType, RefusesType};
 
 use crate::binding::{binding_place, bound_name, domain};
 use crate::bound_names::BoundNames;
 use crate::elab_fault::ElabFault;
-use crate::file_text::FileText;
+use crate::reader::Reader;
 use crate::types::read_family;
 use basics::limits::MOST_BINDERS;
 use file_trees::{Binder, Last, Span, TermTrees, TypeTree};
 use lf_kernel::local_context::LocalContext;
-use lf_terms::{GoalList, Signature, Ty, Tys};
-use std::alloc::Global;
+use lf_terms::{Ty, Tys};
 
 /// Reads a type: names are resolved, and its terms are read. The fault is the first.
 #[cycle(read_type)]
 pub fn read_type<'a>(
-    alloc: Global,
-    source: &'a FileText<'a>,
-    sig: &'a Signature,
-    metas: &'a GoalList,
+    reader: &'a Reader<'a>,
     names: &mut BoundNames,
     scope: &'a LocalContext<'a>,
     tree: &'a TypeTree,
 ) -> Result<Ty, ElabFault>
-    requires cut { TokensOf source.now.bytes.now source.now.tokens.now }
-    requires closed { metas.now ≡ [] }
-    requires known { KnownAt sig.now (typing_of sig.now scope.now) names.old }
-    ensures read { IfOk result (λ ty. ReadsType (text_in source.now) sig.now names.old (typing_of sig.now scope.now) 0 tree.now (type_of ty)) }
-    ensures refused { IfErr result (IsRefusal (RefusesType (text_in source.now) sig.now names.old (typing_of sig.now scope.now) 0 tree.now)) }
+    requires cut { TokensOf reader.now.source.now.bytes.now reader.now.source.now.tokens.now }
+    requires closed { reader.now.metas.now ≡ [] }
+    requires known { KnownAt reader.now.sig.now (typing_by reader.now scope.now) names.old }
+    ensures read { IfOk result (λ ty. ReadsType (text_of reader.now) reader.now.sig.now names.old (typing_by reader.now scope.now) 0 tree.now (type_of ty)) }
+    ensures refused { IfErr result (IsRefusal (RefusesType (text_of reader.now) reader.now.sig.now names.old (typing_by reader.now scope.now) 0 tree.now)) }
     ensures names { OnOk result (names.new ≡ names.old) }
 {
-    let prefix = Vec::new(alloc);
-    match read_rest(alloc, source, sig, metas, names, scope, prefix, tree) {
+    let prefix = Vec::new(reader.alloc);
+    match read_rest(reader, names, scope, prefix, tree) {
         Err(fault) => Err(fault),
         Ok(ty) => Ok(ty),
     }
@@ -50,36 +46,24 @@ pub fn read_type<'a>(
 // What comes after these binders of a type.
 #[cycle(read_type)]
 fn read_rest<'a>(
-    alloc: Global,
-    source: &'a FileText<'a>,
-    sig: &'a Signature,
-    metas: &'a GoalList,
+    reader: &'a Reader<'a>,
     names: &mut BoundNames,
     scope: &'a LocalContext<'a>,
     prefix: Vec<Ty>,
     tree: &'a TypeTree,
 ) -> Result<Ty, ElabFault>
-    requires cut { TokensOf source.now.bytes.now source.now.tokens.now }
-    requires closed { metas.now ≡ [] }
-    requires known { KnownAt sig.now (with_context (types_of prefix.items) (typing_of sig.now scope.now)) names.old }
-    ensures read { IfOk result (λ ty. ReadsAfter (text_in source.now) sig.now names.old (typing_of sig.now scope.now) (types_of prefix.items) tree.now (type_of ty)) }
-    ensures refused { IfErr result (IsRefusal (RefusesAfter (text_in source.now) sig.now names.old (typing_of sig.now scope.now) (types_of prefix.items) tree.now)) }
+    requires cut { TokensOf reader.now.source.now.bytes.now reader.now.source.now.tokens.now }
+    requires closed { reader.now.metas.now ≡ [] }
+    requires known { KnownAt reader.now.sig.now (with_context (types_of prefix.items) (typing_by reader.now scope.now)) names.old }
+    ensures read { IfOk result (λ ty. ReadsAfter (text_of reader.now) reader.now.sig.now names.old (typing_by reader.now scope.now) (types_of prefix.items) tree.now (type_of ty)) }
+    ensures refused { IfErr result (IsRefusal (RefusesAfter (text_of reader.now) reader.now.sig.now names.old (typing_by reader.now scope.now) (types_of prefix.items) tree.now)) }
     ensures names { OnOk result (names.new ≡ names.old) }
 {
     let depth = names.len();
     let (binders, last) = tree.parts();
-    match read_binders(
-        alloc,
-        source,
-        sig,
-        metas,
-        names,
-        scope,
-        prefix,
-        binders.as_slice(),
-    ) {
+    match read_binders(reader, names, scope, prefix, binders.as_slice()) {
         Err(fault) => Err(fault),
-        Ok(types) => match read_last(alloc, source, sig, metas, names, scope, types, last) {
+        Ok(types) => match read_last(reader, names, scope, types, last) {
             Err(fault) => Err(fault),
             Ok(ty) => {
                 names.truncate(depth);
@@ -92,20 +76,17 @@ fn read_rest<'a>(
 // The binders of a type, after those before.
 #[cycle(read_type)]
 fn read_binders<'a>(
-    alloc: Global,
-    source: &'a FileText<'a>,
-    sig: &'a Signature,
-    metas: &'a GoalList,
+    reader: &'a Reader<'a>,
     names: &mut BoundNames,
     scope: &'a LocalContext<'a>,
     prefix: Vec<Ty>,
     items: &'a [Binder],
 ) -> Result<Vec<Ty>, ElabFault>
-    requires cut { TokensOf source.now.bytes.now source.now.tokens.now }
-    requires closed { metas.now ≡ [] }
-    requires known { KnownAt sig.now (with_context (types_of prefix.items) (typing_of sig.now scope.now)) names.old }
-    ensures read { IfOk result (λ types. Opens (text_in source.now) sig.now names.old names.new (typing_of sig.now scope.now) (types_of prefix.items) (types_of types.items) (bindings_of items.now) []) }
-    ensures refused { IfErr result (IsRefusal (λ fault. (last : Classifier) → RefusesAfter (text_in source.now) sig.now names.old (typing_of sig.now scope.now) (types_of prefix.items) (bind (bindings_of items.now) last) fault)) }
+    requires cut { TokensOf reader.now.source.now.bytes.now reader.now.source.now.tokens.now }
+    requires closed { reader.now.metas.now ≡ [] }
+    requires known { KnownAt reader.now.sig.now (with_context (types_of prefix.items) (typing_by reader.now scope.now)) names.old }
+    ensures read { IfOk result (λ types. Opens (text_of reader.now) reader.now.sig.now names.old names.new (typing_by reader.now scope.now) (types_of prefix.items) (types_of types.items) (bindings_of items.now) []) }
+    ensures refused { IfErr result (IsRefusal (λ fault. (last : Classifier) → RefusesAfter (text_of reader.now) reader.now.sig.now names.old (typing_by reader.now scope.now) (types_of prefix.items) (bind (bindings_of items.now) last) fault)) }
 {
     let mut types = prefix;
     for i in 0..items.len() {
@@ -113,17 +94,14 @@ fn read_binders<'a>(
             return Err(ElabFault::TooMany(binding_place(&items[i])));
         }
         match read_type(
-            alloc,
-            &*source,
-            &*sig,
-            &*metas,
+            &*reader,
             names,
             &LocalContext::Under(types.as_slice(), &*scope),
             domain(&items[i]),
         ) {
             Err(fault) => return Err(fault),
             Ok(ty) => {
-                names.push(alloc, bound_name(&*source, &items[i]))?;
+                names.push(reader.alloc, bound_name(reader.source, &items[i]))?;
                 types.push(ty)?;
             }
         }
@@ -134,55 +112,47 @@ fn read_binders<'a>(
 // The last part of a type, after these binders.
 #[cycle(read_type)]
 fn read_last<'a>(
-    alloc: Global,
-    source: &'a FileText<'a>,
-    sig: &'a Signature,
-    metas: &'a GoalList,
+    reader: &'a Reader<'a>,
     names: &mut BoundNames,
     scope: &'a LocalContext<'a>,
     types: Vec<Ty>,
     last: &'a Last,
 ) -> Result<Ty, ElabFault>
-    requires cut { TokensOf source.now.bytes.now source.now.tokens.now }
-    requires closed { metas.now ≡ [] }
-    requires known { KnownAt sig.now (with_context (types_of types.items) (typing_of sig.now scope.now)) names.old }
-    ensures read { IfOk result (λ ty. ReadsAfter (text_in source.now) sig.now names.old (typing_of sig.now scope.now) (types_of types.items) (last_of last.now) (type_of ty)) }
-    ensures refused { IfErr result (IsRefusal (RefusesAfter (text_in source.now) sig.now names.old (typing_of sig.now scope.now) (types_of types.items) (last_of last.now))) }
+    requires cut { TokensOf reader.now.source.now.bytes.now reader.now.source.now.tokens.now }
+    requires closed { reader.now.metas.now ≡ [] }
+    requires known { KnownAt reader.now.sig.now (with_context (types_of types.items) (typing_by reader.now scope.now)) names.old }
+    ensures read { IfOk result (λ ty. ReadsAfter (text_of reader.now) reader.now.sig.now names.old (typing_by reader.now scope.now) (types_of types.items) (last_of last.now) (type_of ty)) }
+    ensures refused { IfErr result (IsRefusal (RefusesAfter (text_of reader.now) reader.now.sig.now names.old (typing_by reader.now scope.now) (types_of types.items) (last_of last.now))) }
     ensures names { OnOk result (names.new ≡ names.old) }
 {
     match last {
-        Last::Fam(span, arguments) => read_atom(
-            alloc, source, sig, metas, names, scope, types, *span, arguments,
-        ),
+        Last::Fam(span, arguments) => read_atom(reader, names, scope, types, *span, arguments),
         Last::Star(span) => Err(ElabFault::Unknown(span.start)),
-        Last::Group(inner) => read_rest(alloc, source, sig, metas, names, scope, types, inner),
+        Last::Group(inner) => read_rest(reader, names, scope, types, inner),
     }
 }
 
 // A family with its arguments, after these binders.
 fn read_atom<'a>(
-    alloc: Global,
-    source: &'a FileText<'a>,
-    sig: &'a Signature,
-    metas: &'a GoalList,
+    reader: &'a Reader<'a>,
     names: &mut BoundNames,
     scope: &'a LocalContext<'a>,
     types: Vec<Ty>,
     span: Span,
     arguments: &'a TermTrees,
 ) -> Result<Ty, ElabFault>
-    requires cut { TokensOf source.now.bytes.now source.now.tokens.now }
-    requires closed { metas.now ≡ [] }
-    requires known { KnownAt sig.now (with_context (types_of types.items) (typing_of sig.now scope.now)) names.old }
-    ensures read { IfOk result (λ ty. ReadsAfter (text_in source.now) sig.now names.old (typing_of sig.now scope.now) (types_of types.items) (family span arguments.now) (type_of ty)) }
-    ensures refused { IfErr result (IsRefusal (RefusesAfter (text_in source.now) sig.now names.old (typing_of sig.now scope.now) (types_of types.items) (family span arguments.now))) }
+    requires cut { TokensOf reader.now.source.now.bytes.now reader.now.source.now.tokens.now }
+    requires closed { reader.now.metas.now ≡ [] }
+    requires known { KnownAt reader.now.sig.now (with_context (types_of types.items) (typing_by reader.now scope.now)) names.old }
+    ensures read { IfOk result (λ ty. ReadsAfter (text_of reader.now) reader.now.sig.now names.old (typing_by reader.now scope.now) (types_of types.items) (family span arguments.now) (type_of ty)) }
+    ensures refused { IfErr result (IsRefusal (RefusesAfter (text_of reader.now) reader.now.sig.now names.old (typing_by reader.now scope.now) (types_of types.items) (family span arguments.now))) }
     ensures names { OnOk result (names.new ≡ names.old) }
 {
-    let inside = LocalContext::Under(types.as_slice(), scope);
-    match read_family(alloc, source, sig, metas, names, &inside, span, arguments) {
+    let inside = LocalContext::Under(types.as_slice(), &*scope);
+    match read_family(&*reader, names, &inside, span, &*arguments) {
         Err(fault) => Err(fault),
         Ok(atom) => {
-            let binders = Tys::from_vec(alloc, types)?;
+            let binders = Tys::from_vec(reader.alloc, types)?;
             Ok(Ty {
                 binders,
                 family: atom.family,

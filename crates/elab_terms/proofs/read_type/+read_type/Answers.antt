@@ -6,8 +6,8 @@ use Rattle.lf_terms.proofs.TypeLists.{length-types_of, types_of-append}
 use Rattle.file_trees.specs.Trees.{Classifier, bind, classifier_size}
 use Rattle.file_trees.specs.TypeViews.{binding_of, bindings_of, last_of}
 use Rattle.elab_terms.specs.ReadBinders.{binding_name, Opens, RefusesAfter}
-use Rattle.elab_terms.specs.KnownTypes.{KnownAt, typing_of}
-use Rattle.elab_terms.specs.FileTexts.{text_in}
+use Rattle.elab_terms.specs.KnownTypes.{KnownAt}
+use Rattle.elab_terms.specs.Readers.{text_of, typing_by}
 use Rattle.elab_terms.specs.Types.{ReadsType, RefusesType, refuses_word}
 use Rattle.elab_terms.specs.declared.elab_fault.ElabFault.TheVariants.{TooMany, Unknown}
 use Rattle.typing_laws.proofs.Binders.{pis-append}
@@ -19,33 +19,33 @@ use Rattle.elab_terms.proofs.read_type.+read_type.Goals as goal
 pub read_binders-loop-i-init : goal.read_binders-loop-i-init
 read_binders-loop-i-init t c =
     let a = c.args in
-    opens_none (text_in a.source.now) a.sig.now a.names.now (typing_of a.sig.now a.scope.now) (types_of a.prefix.items) (bindings_of a.items.now) c.requires.known
+    opens_none (text_of a.reader.now) a.reader.now.sig.now a.names.now (typing_by a.reader.now a.scope.now) (types_of a.prefix.items) (bindings_of a.items.now) c.requires.known
 
 pub read_binders-returns-then-len-ge-MOST_BINDERS-clause-refused : goal.read_binders-returns-then-len-ge-MOST_BINDERS-clause-refused
 read_binders-returns-then-len-ge-MOST_BINDERS-clause-refused t c = λ last.
     let a = c.args in
-    let text = text_in a.source.now in
-    let Γ = typing_of a.sig.now a.scope.now in
+    let text = text_of a.reader.now in
+    let Γ = typing_by a.reader.now a.scope.now in
     let before = types_of a.prefix.items in
     let after = types_of c.loop-i.types.items in
     let whole = bindings_of a.items.now in
     let item = c.index-items-i.result in
-    let opens = subst (Opens text a.sig.now a.names.now c.loop-i.names Γ before after whole) (bindings_of-drop a.items.now c.loop-i.i item c.loop-i-test.true c.index-items-i.is) c.loop-i.invariant in
-    subst (λ p. RefusesAfter text a.sig.now a.names.now Γ before (bind whole last) (TooMany p)) (sym c.binding_place.ensures)
-    (too_many text a.sig.now a.names.now c.loop-i.names Γ before after whole (drop (c.loop-i.i + 1) whole) (binding_of item) opens
+    let opens = subst (Opens text a.reader.now.sig.now a.names.now c.loop-i.names Γ before after whole) (bindings_of-drop a.items.now c.loop-i.i item c.loop-i-test.true c.index-items-i.is) c.loop-i.invariant in
+    subst (λ p. RefusesAfter text a.reader.now.sig.now a.names.now Γ before (bind whole last) (TooMany p)) (sym c.binding_place.ensures)
+    (too_many text a.reader.now.sig.now a.names.now c.loop-i.names Γ before after whole (drop (c.loop-i.i + 1) whole) (binding_of item) opens
     (omega (arith, c.if-len-ge-MOST_BINDERS.true, c.len.ensures, c.loop-i.types.ok.0, length-types_of c.loop-i.types.items)) last)
 
 pub read_binders-read_type-requires : goal.read_binders-read_type-requires
 read_binders-read_type-requires t c =
     let a = c.args in
-    let Γ = typing_of a.sig.now a.scope.now in
+    let Γ = typing_by a.reader.now a.scope.now in
     let item = c.index-items-i-in-loop-i.result in (
       omega (arith, c.decreases, ap classifier_size c.domain.ensures, domain_falls a.items.now c.loop-i.i item c.loop-i-test.true c.index-items-i-in-loop-i.is),
       (
         c.requires.cut,
         (
           c.requires.closed,
-          subst (λ xs. KnownAt a.sig.now (with_context (types_of xs) Γ) c.loop-i.names) (sym c.as_slice.ensures.value) c.loop-i.invariant.known,
+          subst (λ xs. KnownAt a.reader.now.sig.now (with_context (types_of xs) Γ) c.loop-i.names) (sym c.as_slice.ensures.value) c.loop-i.invariant.known,
         ),
       ),
     )
@@ -53,26 +53,26 @@ read_binders-read_type-requires t c =
 pub read_binders-returns-in-Err-clause-refused : goal.read_binders-returns-in-Err-clause-refused
 read_binders-returns-in-Err-clause-refused t c =
     let a = c.args in
-    let text = text_in a.source.now in
-    let Γ = typing_of a.sig.now a.scope.now in
+    let text = text_of a.reader.now in
+    let Γ = typing_by a.reader.now a.scope.now in
     let before = types_of a.prefix.items in
     let after = types_of c.loop-i.types.items in
     let seen = types_of c.as_slice.result.now in
     let value : seen ≡ after = ap types_of c.as_slice.ensures.value in
     let whole = bindings_of a.items.now in
     let item = c.index-items-i-in-loop-i.result in
-    let opens = subst (Opens text a.sig.now a.names.now c.loop-i.names Γ before after whole) (bindings_of-drop a.items.now c.loop-i.i item c.loop-i-test.true c.index-items-i-in-loop-i.is) c.loop-i.invariant in
+    let opens = subst (Opens text a.reader.now.sig.now a.names.now c.loop-i.names Γ before after whole) (bindings_of-drop a.items.now c.loop-i.i item c.loop-i-test.true c.index-items-i-in-loop-i.is) c.loop-i.invariant in
     let few : length after < 1000 = omega (arith, c.if-len-ge-MOST_BINDERS.false, c.len.ensures, c.loop-i.types.ok.0, length-types_of c.loop-i.types.items) in
-    IsRefusal-map (RefusesType text a.sig.now c.loop-i.names (with_context seen Γ) 0 c.domain.result.now) (λ fault. (last : Classifier) → RefusesAfter text a.sig.now a.names.now Γ before (bind whole last) fault)
-    (λ fault p. domain_refused text a.sig.now a.names.now c.loop-i.names Γ before after whole (drop (c.loop-i.i + 1) whole) (binding_of item) opens few fault
-    (subst₂ (λ ctx d. RefusesType text a.sig.now c.loop-i.names (with_context ctx Γ) 0 d fault) value c.domain.ensures p))
+    IsRefusal-map (RefusesType text a.reader.now.sig.now c.loop-i.names (with_context seen Γ) 0 c.domain.result.now) (λ fault. (last : Classifier) → RefusesAfter text a.reader.now.sig.now a.names.now Γ before (bind whole last) fault)
+    (λ fault p. domain_refused text a.reader.now.sig.now a.names.now c.loop-i.names Γ before after whole (drop (c.loop-i.i + 1) whole) (binding_of item) opens few fault
+    (subst₂ (λ ctx d. RefusesType text a.reader.now.sig.now c.loop-i.names (with_context ctx Γ) 0 d fault) value c.domain.ensures p))
     c.in-Err.fault c.in-Err.ensures.refused
 
 pub read_binders-loop-i-preserved : goal.read_binders-loop-i-preserved
 read_binders-loop-i-preserved t c =
     let a = c.args in
-    let text = text_in a.source.now in
-    let Γ = typing_of a.sig.now a.scope.now in
+    let text = text_of a.reader.now in
+    let Γ = typing_by a.reader.now a.scope.now in
     let before = types_of a.prefix.items in
     let after = types_of c.loop-i.types.items in
     let seen = types_of c.as_slice.result.now in
@@ -83,27 +83,27 @@ read_binders-loop-i-preserved t c =
     let other = c.index-items-i-in-Ok.result in
     let ty = c.in-Ok.ty in
     let same : binding_of other ≡ binding_of item = same_binding a.items.now c.loop-i.i other item c.loop-i-test.true c.index-items-i-in-Ok.is c.index-items-i-in-loop-i.is in
-    let opens = subst (Opens text a.sig.now a.names.now c.loop-i.names Γ before after whole) (bindings_of-drop a.items.now c.loop-i.i item c.loop-i-test.true c.index-items-i-in-loop-i.is) c.loop-i.invariant in
+    let opens = subst (Opens text a.reader.now.sig.now a.names.now c.loop-i.names Γ before after whole) (bindings_of-drop a.items.now c.loop-i.i item c.loop-i-test.true c.index-items-i-in-loop-i.is) c.loop-i.invariant in
     let few : length after < 1000 = omega (arith, c.if-len-ge-MOST_BINDERS.false, c.len.ensures, c.loop-i.types.ok.0, length-types_of c.loop-i.types.items) in
-    let read = subst₂ (λ ctx d. ReadsType text a.sig.now c.loop-i.names (with_context ctx Γ) 0 d (type_of ty)) value c.domain.ensures c.in-Ok.ensures.read in
+    let read = subst₂ (λ ctx d. ReadsType text a.reader.now.sig.now c.loop-i.names (with_context ctx Γ) 0 d (type_of ty)) value c.domain.ensures c.in-Ok.ensures.read in
     let now : c.push.new.self ≡ binding_name text (binding_of item) ∷ c.loop-i.names =
     c.in_ok-push-in-Ok.ensures.ok ∙ ap (λ n. n ∷ c.read_type.new.names) c.bound_name.ensures ∙ ap (λ b. binding_name text b ∷ c.read_type.new.names) same ∙ ap (λ ns. binding_name text (binding_of item) ∷ ns) c.in-Ok.ensures.names in
     let types : types_of c.push-in-Ok.new.self.items ≡ after ++ type_of ty ∷ [] = ap types_of c.in_ok-push-in-Ok-2.ensures.items ∙ types_of-append c.loop-i.types.items ty in
-    subst₂ (λ ns ts. Opens text a.sig.now a.names.now ns Γ before ts whole rest) (sym now) (sym types)
-    (opens_more text a.sig.now a.names.now c.loop-i.names Γ before after whole rest (binding_of item) opens few (type_of ty) read)
+    subst₂ (λ ns ts. Opens text a.reader.now.sig.now a.names.now ns Γ before ts whole rest) (sym now) (sym types)
+    (opens_more text a.reader.now.sig.now a.names.now c.loop-i.names Γ before after whole rest (binding_of item) opens few (type_of ty) read)
 
 pub read_binders-returns-clause-read : goal.read_binders-returns-clause-read
 read_binders-returns-clause-read t c =
     let a = c.args in
-    subst (Opens (text_in a.source.now) a.sig.now a.names.now c.loop-i.names (typing_of a.sig.now a.scope.now) (types_of a.prefix.items) (types_of c.loop-i.types.items) (bindings_of a.items.now))
+    subst (Opens (text_of a.reader.now) a.reader.now.sig.now a.names.now c.loop-i.names (typing_by a.reader.now a.scope.now) (types_of a.prefix.items) (types_of c.loop-i.types.items) (bindings_of a.items.now))
     (past_all (bindings_of a.items.now) c.loop-i.i (omega (arith, c.loop-i-test.false, length-bindings_of a.items.now))) c.loop-i.invariant
 
 pub read_last-returns-in-Star-clause-refused : goal.read_last-returns-in-Star-clause-refused
 read_last-returns-in-Star-clause-refused t c =
     let a = c.args in
-    let Γ = typing_of a.sig.now a.scope.now in
+    let Γ = typing_by a.reader.now a.scope.now in
     let prefix = types_of a.types.items in
-    subst (λ l. RefusesAfter (text_in a.source.now) a.sig.now a.names.now Γ prefix (last_of l) (Unknown c.in-Star.span.start)) (sym c.in-Star.is)
+    subst (λ l. RefusesAfter (text_of a.reader.now) a.reader.now.sig.now a.names.now Γ prefix (last_of l) (Unknown c.in-Star.span.start)) (sym c.in-Star.is)
     (refuses_word a.names.now (with_context prefix Γ) (length prefix) c.in-Star.span)
 
 pub read_rest-read_binders-requires : goal.read_rest-read_binders-requires
@@ -124,8 +124,8 @@ read_rest-read_last-requires t c =
 pub read_rest-returns-in-Ok-read_last-clause-read : goal.read_rest-returns-in-Ok-read_last-clause-read
 read_rest-returns-in-Ok-read_last-clause-read t c =
     let a = c.args in
-    let text = text_in a.source.now in
-    let Γ = typing_of a.sig.now a.scope.now in
+    let text = text_of a.reader.now in
+    let Γ = typing_by a.reader.now a.scope.now in
     let before = types_of a.prefix.items in
     let last = last_of c.parts.result.1.now in
     let opens = c.in-Ok.ensures.read in
@@ -133,5 +133,5 @@ read_rest-returns-in-Ok-read_last-clause-read t c =
     let whole = ap (λ bs. bind bs last) c.as_slice.ensures ∙ c.parts.ensures.whole in record {
       rest = pis opens.added l.rest;
       whole = l.whole ∙ ap (λ ts. pis ts l.rest) opens.types_are ∙ pis-append before opens.added l.rest;
-      read = subst (λ tree. ReadsType text a.sig.now a.names.now (with_context before Γ) (length before) tree (pis opens.added l.rest)) whole (opens.reads last l.rest l.read);
+      read = subst (λ tree. ReadsType text a.reader.now.sig.now a.names.now (with_context before Γ) (length before) tree (pis opens.added l.rest)) whole (opens.reads last l.rest l.read);
     }

@@ -1,0 +1,14 @@
+-- What is read with, as definitions speak of it.
+use Rattle.lf_definitions.specs.Typing.{Typing}
+use Rattle.lf_kernel.specs.declared.local_context.LocalContext.{LocalContext}
+use Rattle.elab_terms.specs.Names.{Text}
+use Rattle.elab_terms.specs.FileTexts.{text_in}
+use Rattle.elab_terms.specs.KnownTypes.{typing_of}
+use Rattle.elab_terms.specs.declared.reader.Reader.{Reader}
+
+abbrev pub text_of : Reader → Text
+text_of reader = text_in reader.source.now
+
+-- the types of heads at a place
+abbrev pub typing_by : Reader → LocalContext → Typing
+typing_by reader scope = typing_of reader.sig.now scope
