@@ -129,7 +129,7 @@ at_root_low shape is_shape proved stuck old_proved old_stuck proved' stuck' node
     step.fresh relevant other (λ alternative place c. let clash : None ≡ Some (other, alternative, place) = only_parent shape is_shape node None root other alternative place c in cc)
     (λ e. omega (arith, e)) (h.low relevant other small fresh)
 
-other_parent : (shape : TreeShape) → IsShape shape → (node : ℕ) (way : ℕ × ℕ × ℕ) → above_at shape node ≡ Some way → (other : ℕ) → other ≢ way.0 → (alternative place : ℕ) → IsChild shape other alternative place node → ⊥
+pub other_parent : (shape : TreeShape) → IsShape shape → (node : ℕ) (way : ℕ × ℕ × ℕ) → above_at shape node ≡ Some way → (other : ℕ) → other ≢ way.0 → (alternative place : ℕ) → IsChild shape other alternative place node → ⊥
 other_parent shape is_shape node way e other ne alternative place c =
     let both : ◌≡◌ {A = Option (ℕ × ℕ × ℕ)} (Some way) (Some (other, alternative, place)) = only_parent shape is_shape node (Some way) e other alternative place c in
     let inside : ◌≡◌ {A = ℕ × ℕ × ℕ} way (other, alternative, place) = cc in

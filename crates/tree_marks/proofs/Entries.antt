@@ -8,6 +8,7 @@ use Rattle.tree_runs.specs.Shapes.{TreeShape, nodes_count, alternatives_at, IsSh
 use Rattle.tree_runs.proofs.Lists.{below_or_past}
 use Rattle.tree_runs.specs.Marks.{all_from, any_from, all_children, some_child, proved_by, stuck_by, entry_at}
 use Rattle.tree_shape.specs.Room.{HasAlternative}
+use Rattle.tree_marks.specs.TreeMarks.{EachEntry}
 
 pub all_from-more : (test : ℕ → Bool) (first count : ℕ) → all_from test first (suc count) ≡ (all_from test first count && test (first + count))
 all_from-more test first zero = let e : test (first + 0) ≡ test first = ap test (omega arith) in grind (arith, e)
@@ -116,10 +117,6 @@ children_stand shape is_shape node alternative first count e = known (alternativ
 -- the entries of a node, one by one
 pub entry_known : (shape : TreeShape) (node : ℕ) (all : List (ℕ × ℕ)) (alternative : ℕ) → alternatives_at shape node ≡ Some all → entry_at (alternatives_at shape node) alternative ≡ slice_get all alternative
 entry_known shape node all alternative g = ap (λ o. entry_at o alternative) g
-
--- each alternative before this one fails the test, or passes it
-abbrev pub EachEntry : TreeShape → ℕ → ℕ → (ℕ × ℕ → Bool) → Bool → Type 0
-EachEntry shape node bound test answer = (alternative : ℕ) (entry : ℕ × ℕ) → alternative < bound → entry_at (alternatives_at shape node) alternative ≡ Some entry → test entry ≡ answer
 
 pub one_more_entry : (shape : TreeShape) (node bound : ℕ) (test : ℕ × ℕ → Bool) (answer : Bool) (entry : ℕ × ℕ) → EachEntry shape node bound test answer →
     entry_at (alternatives_at shape node) bound ≡ Some entry → test entry ≡ answer → EachEntry shape node (bound + 1) test answer

@@ -1,4 +1,5 @@
 mod Entries
 mod Climbs
 mod Freshness
+mod Knowing
 pub mod Settling

@@ -5,21 +5,21 @@ use Rattle.std.specs.Option.{option_flatten}
 use Rattle.std.proofs.lemmas.List.{get_or_past, take-append-le, take_all, length-replicate}
 use Rattle.std.proofs.lemmas.Option.{slice_get_cases}
 use Rattle.tree_runs.specs.Shapes.{TreeShape, root_shape, nodes_count, above_at, alternatives_at, grow, IsShape, IsChild}
-use Rattle.tree_runs.specs.Marks.{proved_by, stuck_by, entry_at, is_proved, is_stuck, alternative_decided, relevant_by, is_relevant}
+use Rattle.tree_runs.specs.Marks.{all_from, some_child, proved_by, stuck_by, entry_at, is_proved, is_stuck, alternative_decided, relevant_by, is_relevant}
 use Rattle.tree_runs.proofs.Shapes.{IsShape-root, IsShape-grow, alternatives-others, old-child, new-child, nodes_count-grow}
 use Rattle.tree_runs.proofs.Marks.{alternatives-past, all_from-agree, any_from-agree, proved_by-agree, stuck_by-agree, is_proved-local, is_stuck-local, proved-unique, stuck-unique, relevant-unique}
 use Rattle.tree_runs.proofs.Progress.{is_relevant-local, root_relevant}
 use Rattle.tree_runs.proofs.Lists.{same_or_other}
 use Rattle.tree_marks.proofs.Climbs.{one_parent}
 use Rattle.tree_marks.proofs.Freshness.{IsApart}
-use Rattle.tree_marks.specs.TreeMarks.{TreeMarks, marked, unmarked, Settled, JustGrown, IsLocalAt, entry_decided, keeps, IsFresh, Begins}
+use Rattle.tree_marks.specs.TreeMarks.{TreeMarks, marked, unmarked, run_of, passed_of, KnowsProved, KnowsStuck, KnowsOthers, Settled, JustGrown, IsLocalAt, entry_decided, keeps, IsFresh, Begins}
 
-default_alone : (k n : ℕ) (d : Bool) → get_or (replicate k d) n d ≡ d
+default_alone : {X : Type 0} (k n : ℕ) (d : X) → get_or (replicate k d) n d ≡ d
 default_alone zero n d = refl
 default_alone (suc k) zero d = refl
 default_alone (suc k) (suc n) d = default_alone k n d
 
-pub default_stays : (flags : List Bool) (k : ℕ) (d : Bool) (n : ℕ) → get_or (flags ++ replicate k d) n d ≡ get_or flags n d
+pub default_stays : {X : Type 0} (flags : List X) (k : ℕ) (d : X) (n : ℕ) → get_or (flags ++ replicate k d) n d ≡ get_or flags n d
 default_stays [] k d n = default_alone k n d
 default_stays (x ∷ flags) k d zero = refl
 default_stays (x ∷ flags) k d (suc n) = default_stays flags k d n
@@ -94,6 +94,28 @@ begins shape node marks proved stuck relevant i j k h ep es er =
       root = r 0 ∙ h.settled.relevant_is 0 ∙ root_relevant h.before h.settled.is_shape;
     })
 
+-- what is known when settling begins
+pub knows_begins : (shape : TreeShape) (node : ℕ) (marks : TreeMarks) (proved stuck : List Bool) (known : List (ℕ × ℕ)) (i j k : ℕ) → JustGrown shape node marks →
+    proved ≡ marks.proved ++ replicate i false → stuck ≡ marks.stuck ++ replicate j false → known ≡ marks.known ++ replicate k (0, 0) → KnowsOthers shape proved stuck known node
+knows_begins shape node marks proved stuck known i j k h ep es ek =
+    let p : (n : ℕ) → marked proved n ≡ marked marks.proved n = λ n. ap (λ flags. marked flags n) ep ∙ default_stays marks.proved i false n in
+    let s : (n : ℕ) → marked stuck n ≡ marked marks.stuck n = λ n. ap (λ flags. marked flags n) es ∙ default_stays marks.stuck j false n in
+    let run : (n : ℕ) → run_of known n ≡ run_of marks.known n = λ n. ap (λ numbers. run_of numbers n) ek ∙ ap (λ (e : ℕ × ℕ). e.0) (default_stays marks.known k (0, 0) n) in
+    let passed : (n : ℕ) → passed_of known n ≡ passed_of marks.known n = λ n. ap (λ numbers. passed_of numbers n) ek ∙ ap (λ (e : ℕ × ℕ). e.1) (default_stays marks.known k (0, 0) n) in
+    let kept : (other : ℕ) → (other ≡ node → ⊥) → alternatives_at shape other ≡ alternatives_at h.before other =
+    λ other ne. ap (λ sh. alternatives_at sh other) h.grown ∙ alternatives-others h.before node h.counts h.settled.is_shape h.stands h.ungrown other ne in
+    let same : (entry : ℕ × ℕ) → some_child (marked stuck) entry ≡ some_child (marked marks.stuck) entry = λ entry. any_from-agree (marked stuck) (marked marks.stuck) entry.0 entry.1 (λ place within. s (entry.0 + place)) in
+    record {
+      knows_proved = λ n. ap (all_from (marked proved) n) (run n) ∙ all_from-agree (marked proved) (marked marks.proved) n (run_of marks.known n) (λ place within. p (n + place)) ∙ h.settled.knows_proved n;
+      knows_stuck = λ other ne. record {
+        before = λ alternative entry small f. same entry ∙ (h.settled.knows_stuck other).before alternative entry (omega (arith, small, passed other)) (ap (λ o. entry_at o alternative) (sym (kept other ne)) ∙ f);
+        next = λ entry f. same entry ∙ (h.settled.knows_stuck other).next entry
+            (ap (entry_at (alternatives_at h.before other)) (sym (passed other)) ∙ ap (λ o. entry_at o (passed_of known other)) (sym (kept other ne)) ∙ f);
+      };
+      unproved = p node ∙ h.settled.proved_is node ∙ is_proved-local h.before h.settled.is_shape node ∙ ap (proved_by (is_proved h.before)) h.ungrown;
+      unstuck = s node ∙ h.settled.stuck_is node ∙ is_stuck-local h.before h.settled.is_shape node ∙ ap (stuck_by (is_stuck h.before)) h.ungrown;
+    }
+
 -- ---- where it ends
 
 fresh_is_local : (shape : TreeShape) (is_shape : IsShape shape) (proved stuck relevant : List Bool) → ((n : ℕ) → marked proved n ≡ is_proved shape n) → ((n : ℕ) → marked stuck n ≡ is_stuck shape n) →
@@ -108,10 +130,11 @@ fresh_is_local shape is_shape proved stuck relevant p s size fresh root (suc n) 
 fresh_is_local shape is_shape proved stuck relevant p s size fresh root n (Some (Some way)) e =
     fresh way.0 way.1 way.2 n (is_shape.down way.0 way.1 way.2 n e) ∙ flags_keep shape proved stuck relevant (unmarked relevant) p s (λ m. refl) way.0 way.1 way.2
 
-pub ends : (shape : TreeShape) (is_shape : IsShape shape) (proved stuck relevant : List Bool) → length proved ≡ nodes_count shape → length stuck ≡ nodes_count shape → length relevant ≡ nodes_count shape →
+pub ends : (shape : TreeShape) (is_shape : IsShape shape) (proved stuck relevant : List Bool) (known : List (ℕ × ℕ)) → length proved ≡ nodes_count shape → length stuck ≡ nodes_count shape → length relevant ≡ nodes_count shape →
     ((n : ℕ) → IsLocalAt shape proved stuck n) → ((n : ℕ) → IsFresh shape proved stuck relevant n) → unmarked relevant 0 ≡ true →
-    Settled shape (record { proved = proved; stuck = stuck; relevant = relevant })
-ends shape is_shape proved stuck relevant a b c local fresh root =
+    length known ≡ nodes_count shape → KnowsProved proved known → ((n : ℕ) → KnowsStuck shape stuck known n) →
+    Settled shape (record { proved = proved; stuck = stuck; relevant = relevant; known = known })
+ends shape is_shape proved stuck relevant known a b c local fresh root d knows_proved knows_stuck =
     let p = proved-unique shape is_shape (marked proved) (λ n. (local n).proved_is) in
     let s = stuck-unique shape is_shape (marked stuck) (λ n. (local n).stuck_is) in
     record {
@@ -122,7 +145,18 @@ ends shape is_shape proved stuck relevant a b c local fresh root =
       proved_is = p;
       stuck_is = s;
       relevant_is = relevant-unique shape is_shape (unmarked relevant) (λ n. fresh_is_local shape is_shape proved stuck relevant p s c fresh root n (slice_get shape.above n) refl);
+      known_size = d;
+      knows_proved = knows_proved;
+      knows_stuck = knows_stuck;
     }
+
+pub settled_as : (shape : TreeShape) (proved stuck relevant : List Bool) (known : List (ℕ × ℕ)) (proved' stuck' relevant' : List Bool) (known' : List (ℕ × ℕ)) → Settled shape (record { proved = proved; stuck = stuck; relevant = relevant; known = known }) →
+    proved' ≡ proved → stuck' ≡ stuck → relevant' ≡ relevant → known' ≡ known → Settled shape (record { proved = proved'; stuck = stuck'; relevant = relevant'; known = known' })
+settled_as shape proved stuck relevant known proved' stuck' relevant' known' h p s r k =
+    subst (λ flags. Settled shape (record { proved = flags; stuck = stuck'; relevant = relevant'; known = known' })) (sym p)
+    (subst (λ flags. Settled shape (record { proved = proved; stuck = flags; relevant = relevant'; known = known' })) (sym s)
+    (subst (λ flags. Settled shape (record { proved = proved; stuck = stuck; relevant = flags; known = known' })) (sym r)
+    (subst (λ numbers. Settled shape (record { proved = proved; stuck = stuck; relevant = relevant; known = numbers })) (sym k) h)))
 
 -- ---- the root alone
 
@@ -143,12 +177,23 @@ root_local n = record {
 root_fresh : (n : ℕ) → IsFresh root_shape (false ∷ []) (false ∷ []) (true ∷ []) n
 root_fresh n alternative place child c = absurd (let clash : ◌≡◌ {A = Option (List (ℕ × ℕ))} None (Some c.all) = sym (root_ungrown n) ∙ c.grown in cc)
 
-pub root_settled : (proved stuck relevant : List Bool) → proved ≡ false ∷ [] → stuck ≡ false ∷ [] → relevant ≡ true ∷ [] → Settled root_shape (record { proved = proved; stuck = stuck; relevant = relevant })
-root_settled proved stuck relevant p s r =
-    subst (λ flags. Settled root_shape (record { proved = flags; stuck = stuck; relevant = relevant })) (sym p)
-    (subst (λ flags. Settled root_shape (record { proved = false ∷ []; stuck = flags; relevant = relevant })) (sym s)
-    (subst (λ flags. Settled root_shape (record { proved = false ∷ []; stuck = false ∷ []; relevant = flags })) (sym r)
-    (ends root_shape IsShape-root (false ∷ []) (false ∷ []) (true ∷ []) refl refl refl root_local root_fresh refl)))
+root_run : (n : ℕ) → run_of ((0, 0) ∷ []) n ≡ 0
+root_run zero = refl
+root_run (suc n) = refl
+
+root_knows_proved : KnowsProved (false ∷ []) ((0, 0) ∷ [])
+root_knows_proved n = ap (all_from (marked (false ∷ [])) n) (root_run n)
+
+root_knows_stuck : (n : ℕ) → KnowsStuck root_shape (false ∷ []) ((0, 0) ∷ []) n
+root_knows_stuck n = record {
+  before = λ alternative entry small f. absurd (let clash : ◌≡◌ {A = Option (ℕ × ℕ)} None (Some entry) = ap (λ o. entry_at o alternative) (sym (root_ungrown n)) ∙ f in cc);
+  next = λ entry f. absurd (let clash : ◌≡◌ {A = Option (ℕ × ℕ)} None (Some entry) = ap (λ o. entry_at o (passed_of ((0, 0) ∷ []) n)) (sym (root_ungrown n)) ∙ f in cc);
+}
+
+pub root_settled : (proved stuck relevant : List Bool) (known : List (ℕ × ℕ)) → proved ≡ false ∷ [] → stuck ≡ false ∷ [] → relevant ≡ true ∷ [] → known ≡ (0, 0) ∷ [] →
+    Settled root_shape (record { proved = proved; stuck = stuck; relevant = relevant; known = known })
+root_settled proved stuck relevant known p s r k = settled_as root_shape (false ∷ []) (false ∷ []) (true ∷ []) ((0, 0) ∷ []) proved stuck relevant known
+    (ends root_shape IsShape-root (false ∷ []) (false ∷ []) (true ∷ []) ((0, 0) ∷ []) refl refl refl root_local root_fresh refl refl root_knows_proved root_knows_stuck) p s r k
 
 -- ---- how many marks there are before and after
 
@@ -156,6 +201,7 @@ pub record Sizes (shape : TreeShape) (node : ℕ) (marks : TreeMarks) : Type 0 w
   pub proved_size : length marks.proved ≤ nodes_count shape
   pub stuck_size : length marks.stuck ≡ length marks.proved
   pub relevant_size : length marks.relevant ≡ length marks.proved
+  pub known_size : length marks.known ≡ length marks.proved
   pub stands : node < nodes_count shape
 
 pub sizes : (shape : TreeShape) (node : ℕ) (marks : TreeMarks) → JustGrown shape node marks → Sizes shape node marks
@@ -165,21 +211,15 @@ sizes shape node marks h =
       proved_size = omega (arith, more, h.settled.proved_size);
       stuck_size = h.settled.stuck_size ∙ sym h.settled.proved_size;
       relevant_size = h.settled.relevant_size ∙ sym h.settled.proved_size;
+      known_size = h.settled.known_size ∙ sym h.settled.proved_size;
       stands = omega (arith, more, h.stands);
     }
 
-pub settled_as : (shape : TreeShape) (proved stuck relevant proved' stuck' relevant' : List Bool) → Settled shape (record { proved = proved; stuck = stuck; relevant = relevant }) →
-    proved' ≡ proved → stuck' ≡ stuck → relevant' ≡ relevant → Settled shape (record { proved = proved'; stuck = stuck'; relevant = relevant' })
-settled_as shape proved stuck relevant proved' stuck' relevant' h p s r =
-    subst (λ flags. Settled shape (record { proved = flags; stuck = stuck'; relevant = relevant' })) (sym p)
-    (subst (λ flags. Settled shape (record { proved = proved; stuck = flags; relevant = relevant' })) (sym s)
-    (subst (λ flags. Settled shape (record { proved = proved; stuck = stuck; relevant = flags })) (sym r) h))
-
 -- a slice that covers its vector, written back
-pub written_back : (flags rest : List Bool) (n : ℕ) → n ≡ length flags → take n (flags ++ rest) ≡ flags
+pub written_back : {X : Type 0} (flags rest : List X) (n : ℕ) → n ≡ length flags → take n (flags ++ rest) ≡ flags
 written_back flags rest n e = let within : n ≤ length flags = omega (arith, e) in take-append-le n flags rest within ∙ take_all n flags (omega (arith, e))
 
-pub length-extended : (flags longer : List Bool) (n : ℕ) (d : Bool) → length flags ≤ n → longer ≡ flags ++ replicate (n - length flags) d → length longer ≡ n
+pub length-extended : {X : Type 0} (flags longer : List X) (n : ℕ) (d : X) → length flags ≤ n → longer ≡ flags ++ replicate (n - length flags) d → length longer ≡ n
 length-extended flags longer n d within e =
     ap length e ∙ length-append flags (replicate (n - length flags) d) ∙ ap (λ (k : ℕ). length flags + k) (length-replicate (n - length flags) d) ∙ (let z : length flags + (n - length flags) ≡ n = omega arith in z)
 

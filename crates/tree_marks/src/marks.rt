@@ -2,9 +2,10 @@
 
 ghost use Rattle.std.specs.Prelude.{◌≡◌, ◌+◌, ◌-◌, ◌<◌, ◌≤◌, ◌++◌, length, replicate, vec_capacity, IfOk, OnOk};
 ghost use Rattle.tree_runs.specs.Shapes.{root_shape, nodes_count};
-ghost use Rattle.tree_marks.specs.TreeMarks.{marked, unmarked, Settled, JustGrown, Begins};
+ghost use Rattle.tree_marks.specs.TreeMarks.{marked, unmarked, Settled, JustGrown, Begins, KnowsOthers};
 
 use crate::climb::{climb, is_settled_at};
+use crate::known::begin_passing;
 use crate::refresh::{refresh_from, refresh_node};
 use basics::NoMemory;
 use basics::limits::LIST_LIMIT;
@@ -12,12 +13,14 @@ use std::alloc::Global;
 use std::marker::Model;
 use tree_shape::Shape;
 
-/// For each node whether it is proved, stuck and relevant. A contract sees these marks and for how many more nodes there is room.
+/// For each node whether it is proved, stuck and relevant, and what is known below it. A contract sees these and for how many more nodes
+/// there is room.
 #[derive(Drop)]
 pub struct Marks {
     proved: Vec<bool>,
     stuck: Vec<bool>,
     relevant: Vec<bool>,
+    known: Vec<(u32, u32)>,
     spare: usize,
 }
 
@@ -29,13 +32,14 @@ impl Model for Marks {
     ghost Value = { MarksRoom };
 
     ghost view = { λ m. record {
-      marks = record { proved = m.proved.items; stuck = m.stuck.items; relevant = m.relevant.items };
+      marks = record { proved = m.proved.items; stuck = m.stuck.items; relevant = m.relevant.items; known = m.known.items };
       spare = m.spare;
     } };
 
     ghost invariant = { λ m. HasRoom (length m.proved.items) (vec_capacity m.proved) m.spare
         × HasRoom (length m.stuck.items) (vec_capacity m.stuck) m.spare
-        × HasRoom (length m.relevant.items) (vec_capacity m.relevant) m.spare };
+        × HasRoom (length m.relevant.items) (vec_capacity m.relevant) m.spare
+        × HasRoom (length m.known.items) (vec_capacity m.known) m.spare };
 }
 
 // Puts flags last until there are this many, where there is room for them.
@@ -54,19 +58,45 @@ fn extend(flags: &mut Vec<bool>, len: usize, flag: bool)
     }
 }
 
+// Puts nodes last of which nothing is known, as `extend` does.
+fn extend_known(known: &mut Vec<(u32, u32)>, len: usize)
+    requires longer { length known.old.items ≤ len }
+    requires room { len ≤ vec_capacity known.old }
+    ensures items { known.new.items ≡ known.old.items ++ replicate (len - length known.old.items) (0, 0) }
+    ensures capacity { vec_capacity known.old ≤ vec_capacity known.new }
+{
+    let more = len - known.len();
+    for place in 0..more {
+        match known.push((0, 0)) {
+            Ok(()) => {}
+            Err(_) => unreachable!(),
+        }
+    }
+}
+
 // Marks what a node decides above it, and what that makes irrelevant.
-fn spread(proved: &mut [bool], stuck: &mut [bool], relevant: &mut [bool], shape: &Shape, node: u32)
+fn spread(
+    proved: &mut [bool],
+    stuck: &mut [bool],
+    relevant: &mut [bool],
+    known: &mut [(u32, u32)],
+    shape: &Shape,
+    node: u32,
+)
     requires begins { Begins shape.now.shape proved.old stuck.old relevant.old node }
     requires proved_size { length proved.old ≡ nodes_count shape.now.shape }
     requires stuck_size { length stuck.old ≡ nodes_count shape.now.shape }
     requires relevant_size { length relevant.old ≡ nodes_count shape.now.shape }
     requires stands { node < nodes_count shape.now.shape }
-    ensures { Settled shape.now.shape (record { proved = proved.new; stuck = stuck.new; relevant = relevant.new }) }
+    requires known_size { length known.old ≡ nodes_count shape.now.shape }
+    requires knows { KnowsOthers shape.now.shape proved.old stuck.old known.old node }
+    ensures { Settled shape.now.shape (record { proved = proved.new; stuck = stuck.new; relevant = relevant.new; known = known.new }) }
 {
+    begin_passing(stuck, known, shape, node);
     if is_settled_at(proved, stuck, shape, node) {
         refresh_node(proved, stuck, relevant, shape, node);
     } else {
-        let from = climb(proved, stuck, shape, node);
+        let from = climb(proved, stuck, known, shape, node);
         refresh_from(proved, stuck, relevant, shape, from);
     }
 }
@@ -82,10 +112,13 @@ impl Marks {
         stuck.push(false)?;
         let mut relevant = Vec::new(alloc);
         relevant.push(true)?;
+        let mut known = Vec::new(alloc);
+        known.push((0, 0))?;
         Ok(Marks {
             proved,
             stuck,
             relevant,
+            known,
             spare: 0,
         })
     }
@@ -103,12 +136,14 @@ impl Marks {
         if n > most - self.proved.len()
             || n > most - self.stuck.len()
             || n > most - self.relevant.len()
+            || n > most - self.known.len()
         {
             return Err(NoMemory);
         }
         self.proved.reserve(n)?;
         self.stuck.reserve(n)?;
         self.relevant.reserve(n)?;
+        self.known.reserve(n)?;
         self.spare = n;
         Ok(())
     }
@@ -126,10 +161,12 @@ impl Marks {
         extend(&mut self.proved, len, false);
         extend(&mut self.stuck, len, false);
         extend(&mut self.relevant, len, true);
+        extend_known(&mut self.known, len);
         spread(
             &mut self.proved,
             &mut self.stuck,
             &mut self.relevant,
+            &mut self.known,
             shape,
             node,
         );

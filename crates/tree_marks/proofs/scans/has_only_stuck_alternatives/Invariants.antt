@@ -1,7 +1,6 @@
 use Rattle.std.proofs.Common.{true}
 use Rattle.tree_runs.specs.Marks.{some_child}
-use Rattle.tree_marks.specs.TreeMarks.{marked}
-use Rattle.tree_marks.proofs.Entries.{EachEntry}
+use Rattle.tree_marks.specs.TreeMarks.{marked, EachEntry}
 use Rattle.tree_marks.proofs.scans.has_only_stuck_alternatives.Given as goal
 
 abbrev pub invariant-loop-alternative : goal.invariant-loop-alternative

@@ -1,7 +1,6 @@
 use Rattle.std.proofs.Common.{false}
 use Rattle.tree_runs.specs.Marks.{all_children}
-use Rattle.tree_marks.specs.TreeMarks.{marked}
-use Rattle.tree_marks.proofs.Entries.{EachEntry}
+use Rattle.tree_marks.specs.TreeMarks.{marked, EachEntry}
 use Rattle.tree_marks.proofs.scans.has_proved_alternative.Given as goal
 
 abbrev pub invariant-loop-alternative : goal.invariant-loop-alternative
