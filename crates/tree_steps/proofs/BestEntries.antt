@@ -1,18 +1,16 @@
 -- The best entry of a queue is of the best node.
-use Rattle.std.proofs.Common.{◌≡◌, ◌⊎◌, ℕ, zero, suc, ◌+◌, ◌<◌, ◌≤◌, Bool, true, false, not, ◌==◌, ◌&&◌, ◌||◌, List, [], ◌∷◌, ◌++◌, map, length, Option, Some, None, All, refl, sym, ap, subst, ◌∙◌, arith, slice_get, slice_index_or, inl, inr, add-zero}
-use Rattle.std.specs.List.{list_any}
+use Rattle.std.proofs.Common.{◌≡◌, ◌⊎◌, ℕ, suc, ◌+◌, ◌<◌, Bool, true, false, not, ◌==◌, ◌||◌, List, [], ◌∷◌, length, Some, All, refl, sym, ap, subst, ◌∙◌, arith, slice_get, slice_index_or, inl, inr, add-zero}
 use mathlib.Core.Logic.{⊎_elim}
 use Rattle.std.specs.declared.cmp.Ordering.{Ordering}
 use Rattle.std.specs.declared.cmp.Ordering.TheVariants.{Less, Equal, Greater}
-use Rattle.std.specs.Ordering.{ordering_then, ordering_reverse, nat_cmp, is_lt, then_cmp, on, flip_args}
+use Rattle.std.specs.Ordering.{ordering_reverse, nat_cmp, is_lt}
 use Rattle.std.specs.Cmp.{IsTotalOrder}
-use Rattle.std.proofs.lemmas.Bool.{and_parts, and_from, or_left, or_right, or_cases, not_from_false, eqb-true, eqb-false}
+use Rattle.std.proofs.lemmas.Bool.{and_from, eqb-true, eqb-false}
 use Rattle.std.proofs.lemmas.Cmp.{nat_cmp_total, on_total, then_total, back_total}
-use Rattle.std.proofs.lemmas.Option.{slice_get_within, slice_get-get_or, get_or_from_slice_get}
-use Rattle.std.proofs.lemmas.List.{get_or_default}
+use Rattle.std.proofs.lemmas.Option.{slice_get_within, get_or_from_slice_get}
 use Rattle.std.proofs.lemmas.List.Folds.{list_any_at}
 use Rattle.std.proofs.lemmas.List.Elements.{All-head, All-tail}
-use Rattle.tree_runs.specs.Shapes.{TreeShape, nodes_count, IsShape}
+use Rattle.tree_runs.specs.Shapes.{nodes_count}
 use Rattle.tree_runs.specs.Marks.{is_relevant}
 use Rattle.tree_runs.specs.Addresses.{address_of}
 use Rattle.tree_runs.specs.States.{TreeNode, TreeState}

@@ -1,7 +1,7 @@
 -- The queue after entries were dropped, and after a claim.
-use Rattle.std.proofs.Common.{◌≡◌, ◌⊎◌, ℕ, ◌+◌, ◌<◌, ◌≤◌, Bool, true, false, not, ◌==◌, ◌&&◌, ◌||◌, List, [], ◌∷◌, ◌++◌, map, length, Some, None, All, IsPermutation, refl, sym, ap, subst, ◌∙◌, arith, nat_eq, slice_get, inl, inr}
-use Rattle.std.specs.List.{IsDistinct, list_any}
-use Rattle.std.proofs.lemmas.Bool.{and_parts, and_from, and_right, or_right, not_from_true, or_from, eqb-true, eqb-false}
+use Rattle.std.proofs.Common.{◌≡◌, ℕ, Bool, true, false, ◌==◌, ◌||◌, List, [], ◌∷◌, ◌++◌, All, IsPermutation, refl, sym, subst, ◌∙◌, nat_eq}
+use Rattle.std.specs.List.{IsDistinct}
+use Rattle.std.proofs.lemmas.Bool.{and_parts, and_from, and_right, or_right, or_from, eqb-true}
 use Rattle.std.proofs.lemmas.Cmp.{nat_eq_equiv}
 use Rattle.std.proofs.lemmas.List.{map-append}
 use Rattle.std.proofs.lemmas.List.Elements.{All-head, All-tail, All-from_recursion}
@@ -9,7 +9,7 @@ use Rattle.std.proofs.lemmas.List.Folds.{list_any-append}
 use Rattle.std.proofs.lemmas.List.Sorted.{IsPermutation-map, list_any-IsPermutation, All-permutation}
 use Rattle.std.proofs.lemmas.Map.Keys.{IsDistinct-IsPermutation, IsDistinct-head, IsDistinct-tail}
 use Rattle.tree_runs.specs.Marks.{is_relevant}
-use Rattle.tree_runs.specs.States.{TreeNode, TreeState, after, claim}
+use Rattle.tree_runs.specs.States.{TreeState, after, claim}
 use Rattle.tree_runs.specs.Best.{is_open, is_eligible}
 use Rattle.tree_queue.specs.declared.entry.Entry.{Entry}
 use Rattle.tree_queue.specs.Queues.{DropsIrrelevant}
@@ -32,7 +32,7 @@ distinct_right (x ∷ xs) ys d = distinct_right xs ys (IsDistinct-tail nat_eq x 
 second_of : (a b : Bool) → a ≡ false → (a || b) ≡ true → b ≡ true
 second_of a b h e = rw h at e
 
-All-append-right : {X : Type 0} (P : X → Type 0) (xs ys : List X) → All P (xs ++ ys) → All P ys
+pub All-append-right : {X : Type 0} (P : X → Type 0) (xs ys : List X) → All P (xs ++ ys) → All P ys
 All-append-right P [] ys all = all
 All-append-right P (x ∷ xs) ys all = All-append-right P xs ys (All-tail P x (xs ++ ys) all)
 

@@ -1,18 +1,16 @@
 -- The queue after a commit.
-use Rattle.std.proofs.Common.{◌≡◌, ◌⊎◌, ℕ, zero, suc, ◌+◌, ◌<◌, ◌≤◌, Bool, true, false, not, ◌==◌, ◌&&◌, ◌||◌, List, [], ◌∷◌, ◌++◌, map, length, Some, None, All, IsPermutation, refl, sym, ap, subst, ◌∙◌, arith, nat_eq, nat_lt, slice_get, slice_index_or, inl, inr, length-append, append_assoc}
+use Rattle.std.proofs.Common.{◌≡◌, ◌⊎◌, ℕ, suc, ◌+◌, ◌<◌, ◌≤◌, Bool, true, false, not, ◌==◌, ◌&&◌, ◌||◌, List, [], ◌∷◌, ◌++◌, length, Some, All, IsPermutation, refl, sym, ap, subst, ◌∙◌, arith, nat_eq, nat_lt, slice_get, slice_index_or, inl, inr, length-append, append_assoc}
 use mathlib.Core.Logic.{⊎_elim}
-use Rattle.std.specs.List.{IsDistinct, list_any, Contains, filter}
-use Rattle.std.proofs.lemmas.Bool.{and_parts, and_from, and_right, or_right, or_left, or_cases, or_from, or_parts, eqb-true, eqb-false, lt-ltb, ltb-true, ltb-false}
+use Rattle.std.specs.List.{IsDistinct, list_any, Contains}
+use Rattle.std.proofs.lemmas.Bool.{and_parts, and_from, or_right, or_left, or_cases, or_from, eqb-true, eqb-false, lt-ltb, ltb-true, ltb-false}
 use Rattle.std.proofs.lemmas.Cmp.{nat_eq_equiv}
-use Rattle.std.proofs.lemmas.List.{map-append}
-use Rattle.std.proofs.lemmas.List.Elements.{All-head, All-tail, All-cons, All-nil, All-append, All-contains_itself, recursion_from_All}
+use Rattle.std.proofs.lemmas.List.Elements.{All-cons, All-nil, All-append, All-contains_itself, recursion_from_All}
 use Rattle.std.proofs.lemmas.List.Folds.{list_any-append, list_any_none}
 use Rattle.std.proofs.lemmas.Option.{slice_get_within}
 use Rattle.std.proofs.lemmas.List.Sorted.{list_any-IsPermutation, All-permutation, IsPermutation-map}
 use Rattle.std.proofs.lemmas.Map.Keys.{IsDistinct-IsPermutation, IsDistinct-cons, IsDistinct-tail}
-use Rattle.tree_runs.specs.Shapes.{grow}
 use Rattle.tree_runs.specs.Marks.{is_relevant}
-use Rattle.tree_runs.specs.States.{TreeNode, TreeState, after, after_commit, commit, without_seat, branch_nodes, counts_of}
+use Rattle.tree_runs.specs.States.{TreeNode, TreeState, after_commit, branch_nodes, counts_of}
 use Rattle.tree_runs.specs.Best.{is_open, is_eligible}
 use Rattle.tree_runs.proofs.Marks.{relevant-grow}
 use Rattle.tree_queue.specs.declared.entry.Entry.{Entry}

@@ -1,12 +1,12 @@
 -- A tree after a commit.
-use Rattle.std.proofs.Common.{◌≡◌, ℕ, zero, suc, ◌+◌, ◌<◌, ◌≤◌, Bool, true, false, not, ◌==◌, ◌&&◌, List, [], ◌∷◌, ◌++◌, map, length, Some, All, IsPermutation, refl, sym, ap, subst, ◌∙◌, arith, slice_get, slice_index_or, length-append}
-use Rattle.std.specs.List.{list_any, Contains, filter}
+use Rattle.std.proofs.Common.{◌≡◌, ℕ, ◌+◌, ◌≤◌, true, not, ◌==◌, List, [], ◌∷◌, ◌++◌, map, length, Some, All, IsPermutation, refl, sym, ap, subst, ◌∙◌, arith, slice_get, slice_index_or, length-append}
+use Rattle.std.specs.List.{Contains, filter}
 use Rattle.std.proofs.lemmas.Bool.{and_from}
 use Rattle.std.proofs.lemmas.List.{map-append}
 use Rattle.std.proofs.lemmas.List.Elements.{All-append}
 use Rattle.std.proofs.lemmas.Option.{slice_get_within}
-use Rattle.tree_runs.specs.Shapes.{TreeShape, grow}
-use Rattle.tree_runs.specs.States.{TreeNode, TreeState, TreeEvent, start, state_of, after, after_commit, commit, without_seat, branch_nodes, counts_of}
+use Rattle.tree_runs.specs.Shapes.{grow}
+use Rattle.tree_runs.specs.States.{TreeNode, TreeState, start, state_of, after, after_commit, commit, without_seat, branch_nodes, counts_of}
 use Rattle.tree_runs.specs.Runs.{is_holding, is_legal, is_run, same_counts, are_counts}
 use Rattle.tree_runs.proofs.Lists.{slice_get-append}
 use Rattle.tree_marks.specs.TreeMarks.{Settled}
@@ -15,7 +15,7 @@ use Rattle.tree_queue.specs.Queues.{IsQueueOf}
 use Rattle.tree_runs.proofs.Journals.{state_from-append, is_run_from-append}
 use Rattle.tree_steps.specs.declared.tree.Tree.{Tree}
 use Rattle.tree_steps.specs.declared.tree.Holding.{Holding}
-use Rattle.tree_steps.specs.Trees.{IsRegular, IsEntryOf, FitsQueue, Shows, IsTree, state_of_tree, contents_of, entries_from}
+use Rattle.tree_steps.specs.Trees.{IsRegular, IsEntryOf, Shows, IsTree, state_of_tree, contents_of, entries_from}
 use Rattle.tree_steps.proofs.BestEntries.{same_number}
 use Rattle.tree_steps.proofs.Commits.{fits_committed}
 use Rattle.tree_steps.proofs.Holdings.{pair_of, pairs_left, All-filter, in_state, entry_is_of, fewer_held}

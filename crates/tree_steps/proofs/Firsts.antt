@@ -1,15 +1,12 @@
 -- The first entry of a tree's queue, and the tree after entries were dropped.
-use Rattle.std.proofs.Common.{◌≡◌, ℕ, zero, suc, ◌+◌, ◌<◌, ◌≤◌, Bool, true, false, List, [], ◌∷◌, ◌++◌, map, length, Option, Some, None, All, IsPermutation, refl, sym, ap, subst, ◌∙◌, arith, slice_get, slice_index_or, unwrap_or}
+use Rattle.std.proofs.Common.{◌≡◌, ℕ, zero, suc, ◌+◌, ◌<◌, ◌≤◌, List, [], ◌∷◌, map, length, Some, refl, sym, ap, subst, ◌∙◌, arith, slice_get}
 use Rattle.std.specs.Option.{option_map}
 use Rattle.std.proofs.lemmas.List.{length-map}
 use Rattle.std.proofs.lemmas.Option.{slice_get_within, get_or_from_slice_get}
-use Rattle.tree_runs.specs.Shapes.{TreeShape}
-use Rattle.tree_runs.specs.States.{TreeNode, TreeState}
 use Rattle.tree_queue.specs.declared.entry.Entry.{Entry}
 use Rattle.tree_queue.specs.Queues.{IsQueueOf, DropsIrrelevant}
-use Rattle.tree_queue.proofs.AddressLemmas.{Some_inj}
 use Rattle.tree_steps.specs.declared.tree.Tree.{Tree}
-use Rattle.tree_steps.specs.Trees.{IsEntryOf, FitsQueue, Shows, IsTree, state_of_tree, contents_of}
+use Rattle.tree_steps.specs.Trees.{IsEntryOf, IsTree, state_of_tree, contents_of}
 use Rattle.tree_steps.proofs.Claims.{fits_dropped}
 use Rattle.tree_steps.proofs.Steps.{SameParts, stays}
 

@@ -1,12 +1,12 @@
 -- What seats hold, and a tree after a release.
-use Rattle.std.proofs.Common.{◌≡◌, ℕ, zero, suc, ◌+◌, ◌<◌, ◌≤◌, Bool, true, false, not, ◌==◌, ◌&&◌, List, [], ◌∷◌, ◌++◌, map, length, Some, All, IsPermutation, refl, sym, ap, subst, ◌∙◌, arith, slice_get, slice_index_or}
+use Rattle.std.proofs.Common.{◌≡◌, ℕ, ◌+◌, ◌≤◌, Bool, true, false, not, ◌==◌, ◌&&◌, List, [], ◌∷◌, ◌++◌, map, length, All, IsPermutation, refl, sym, ap, subst, ◌∙◌, arith}
 use mathlib.Core.Logic.{⊎_elim, ◌⊎◌}
 use Rattle.std.specs.List.{list_any, Contains, filter}
-use Rattle.std.proofs.lemmas.Bool.{and_parts, and_from, or_left, or_right, or_cases, eqb-true}
+use Rattle.std.proofs.lemmas.Bool.{and_parts, or_left, or_right, or_cases}
 use Rattle.std.proofs.lemmas.List.{length-map, get_or-map}
-use Rattle.std.proofs.lemmas.List.Elements.{All-head, All-tail, All-cons, All-nil, All-contains}
+use Rattle.std.proofs.lemmas.List.Elements.{All-head, All-tail, All-cons, All-contains}
 use Rattle.tree_runs.specs.Shapes.{TreeShape}
-use Rattle.tree_runs.specs.States.{TreeNode, TreeState, after, release, without_seat}
+use Rattle.tree_runs.specs.States.{TreeState, after, release, without_seat}
 use Rattle.tree_runs.specs.Runs.{is_holding, is_legal}
 use Rattle.tree_marks.specs.TreeMarks.{Settled}
 use Rattle.tree_queue.specs.declared.entry.Entry.{Entry}
@@ -15,9 +15,9 @@ use Rattle.tree_queue.specs.Orders.{IsPlaced}
 use Rattle.tree_queue.specs.Queues.{IsQueueOf}
 use Rattle.tree_steps.specs.declared.tree.Tree.{Tree}
 use Rattle.tree_steps.specs.declared.tree.Holding.{Holding}
-use Rattle.tree_steps.specs.Trees.{IsRegular, IsEntryOf, FitsQueue, Shows, IsTree, state_of_tree, contents_of}
+use Rattle.tree_steps.specs.Trees.{IsRegular, IsEntryOf, Shows, IsTree, state_of_tree}
 use Rattle.tree_steps.proofs.BestEntries.{same_number}
-use Rattle.tree_steps.proofs.Regular.{Contains-first_or, Contains-later, regular_released}
+use Rattle.tree_steps.proofs.Regular.{Contains-first_or, regular_released}
 use Rattle.tree_steps.proofs.Releases.{fits_released}
 use Rattle.tree_runs.proofs.Soundness.{runs_are_sound}
 use Rattle.tree_steps.proofs.SoundRuns.{holding_of}

@@ -1,15 +1,12 @@
 -- Where no node is eligible and the root is undecided, some node is held.
-use Rattle.std.proofs.Common.{◌≡◌, ℕ, ◌+◌, ◌<◌, ◌≤◌, Bool, true, false, not, ◌==◌, ◌&&◌, List, [], ◌∷◌, length, Option, Some, None, refl, sym, ap, ◌∙◌, arith, nat_lt}
+use Rattle.std.proofs.Common.{◌≡◌, ℕ, ◌<◌, Bool, true, false, ◌==◌, List, [], ◌∷◌, length, refl, sym, ◌∙◌, arith, nat_lt}
 use Rattle.std.specs.List.{list_any}
 use Rattle.std.proofs.lemmas.Bool.{and_from, lt-ltb}
-use Rattle.tree_runs.specs.Shapes.{nodes_count, alternatives_at}
 use Rattle.tree_runs.specs.Marks.{is_decided, is_relevant}
-use Rattle.tree_runs.specs.States.{TreeState, state_of}
+use Rattle.tree_runs.specs.States.{TreeState}
 use Rattle.tree_runs.specs.Best.{is_open, is_eligible}
-use Rattle.tree_runs.specs.Runs.{is_run}
 use Rattle.tree_runs.specs.Soundness.{IsSound, is_committed}
 use Rattle.tree_runs.proofs.Progress.{HasOpenNode, progress}
-use Rattle.tree_runs.proofs.Soundness.{runs_are_sound}
 
 some_held : (node : ℕ) (held : List (ℕ × ℕ)) → list_any (λ pair. pair.1 == node) held ≡ true → 0 < length held
 some_held node [] h = cc

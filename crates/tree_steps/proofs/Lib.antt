@@ -11,3 +11,5 @@ mod Firsts
 mod Holdings
 mod Idling
 mod Committed
+mod ChildEntries
+mod Growing

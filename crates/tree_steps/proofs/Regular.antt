@@ -1,19 +1,18 @@
 -- What holds of the state of a run, after each event.
-use Rattle.std.proofs.Common.{◌≡◌, ◌⊎◌, ℕ, zero, suc, ◌+◌, ◌<◌, ◌≤◌, Bool, true, false, not, ◌==◌, ◌&&◌, ◌||◌, List, [], ◌∷◌, ◌++◌, map, length, Option, Some, None, All, refl, sym, ap, subst, ◌∙◌, arith, nat_lt, slice_get, slice_index_or, inl, inr}
+use Rattle.std.proofs.Common.{◌≡◌, ◌⊎◌, ℕ, zero, suc, ◌+◌, ◌<◌, ◌≤◌, Bool, true, false, not, ◌==◌, ◌&&◌, List, [], ◌∷◌, length, Some, None, refl, sym, ap, subst, ◌∙◌, arith, nat_lt, slice_get, slice_index_or, inl, inr}
 use mathlib.Core.Logic.{⊎_elim}
 use Rattle.std.specs.List.{list_any, Contains, filter}
-use Rattle.std.proofs.lemmas.Bool.{and_parts, or_right, or_left, eqb-true, eqb-false, ltb-true}
+use Rattle.std.proofs.lemmas.Bool.{and_parts, eqb-false, ltb-true}
 use Rattle.std.proofs.lemmas.List.Folds.{list_any_at}
 use Rattle.tree_runs.specs.Shapes.{root_shape, alternatives_at}
 use Rattle.tree_runs.specs.Addresses.{address_of}
-use Rattle.tree_runs.specs.States.{TreeNode, TreeState, start, after, claim, release, without_seat}
+use Rattle.tree_runs.specs.States.{TreeNode, TreeState, start, after, claim, release}
 use Rattle.tree_runs.specs.Best.{is_open}
 use Rattle.tree_runs.specs.Runs.{is_busy}
 use Rattle.tree_runs.proofs.Shapes.{IsShape-root}
 use Rattle.std.proofs.lemmas.Option.{slice_get_within}
 use Rattle.tree_queue.proofs.AddressLemmas.{address_of_root, Some_inj}
 use Rattle.tree_steps.specs.Trees.{IsRegular}
-use Rattle.tree_steps.proofs.BestEntries.{same_number}
 
 -- the first of a list, or one of the rest
 pub Contains-first_or : {X : Type 0} (x y : X) (xs : List X) → Contains (x ∷ xs) y → (x ≡ y) ⊎ Contains xs y

@@ -1,6 +1,6 @@
 -- The queue and the held nodes after a release.
-use Rattle.std.proofs.Common.{◌≡◌, ◌⊎◌, ℕ, ◌+◌, ◌<◌, ◌≤◌, Bool, true, false, not, ◌==◌, ◌&&◌, ◌||◌, List, [], ◌∷◌, ◌++◌, map, length, Some, None, All, IsPermutation, refl, sym, ap, subst, ◌∙◌, arith, nat_eq, slice_get, slice_index_or, inl, inr}
-use Rattle.std.specs.List.{IsDistinct, list_any, Contains, filter}
+use Rattle.std.proofs.Common.{◌≡◌, ℕ, Bool, true, false, ◌==◌, ◌||◌, List, [], ◌∷◌, length, All, IsPermutation, refl, sym, ap, subst, ◌∙◌, nat_eq, slice_index_or}
+use Rattle.std.specs.List.{list_any, Contains}
 use Rattle.std.proofs.lemmas.Bool.{and_parts, and_from, and_right, or_right, or_left, or_from, or_parts, eqb-true, eqb-false, lt-ltb}
 use Rattle.std.proofs.lemmas.List.Elements.{All-head, All-tail, All-cons, All-nil, All-contains_itself, recursion_from_All}
 use Rattle.std.proofs.lemmas.List.Folds.{list_any_at}
@@ -8,7 +8,7 @@ use Rattle.std.proofs.lemmas.List.Sorted.{list_any-IsPermutation, All-permutatio
 use Rattle.std.proofs.lemmas.Cmp.{nat_eq_equiv}
 use Rattle.std.proofs.lemmas.Map.Keys.{IsDistinct-IsPermutation, IsDistinct-cons}
 use Rattle.tree_runs.specs.Marks.{is_relevant}
-use Rattle.tree_runs.specs.States.{TreeNode, TreeState, after, release, without_seat}
+use Rattle.tree_runs.specs.States.{TreeState, after, release, without_seat}
 use Rattle.tree_runs.specs.Best.{is_open, is_eligible}
 use Rattle.tree_queue.specs.declared.entry.Entry.{Entry}
 use Rattle.tree_steps.specs.Trees.{has_node, nodes_of, IsEntryOf, FitsQueue, IsRegular}

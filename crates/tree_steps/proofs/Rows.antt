@@ -1,9 +1,9 @@
 -- The events of rows, as more of them and more counts are added.
-use Rattle.std.proofs.Common.{◌≡◌, ℕ, ◌+◌, ◌<◌, ◌≤◌, List, [], ◌∷◌, ◌++◌, length, map, take, drop, All, refl, sym, ap, ◌∙◌, arith, length-drop}
+use Rattle.std.proofs.Common.{◌≡◌, ℕ, List, [], ◌∷◌, ◌++◌, length, take, drop, All, refl, ap, ◌∙◌, arith, length-drop}
 use Rattle.std.proofs.lemmas.List.{map-append, drop-append-le, take-append-le}
 use Rattle.std.proofs.lemmas.List.Elements.{All-head, All-tail}
 use Rattle.std.proofs.Math.Seq.{drop-append_seam, take-length}
-use Rattle.tree_runs.specs.States.{TreeEvent, commit}
+use Rattle.tree_runs.specs.States.{commit}
 use Rattle.tree_steps.specs.declared.journal.Row.{Row}
 use Rattle.tree_steps.specs.declared.journal.Row.TheVariants.{Claim, Commit, Release}
 use Rattle.tree_steps.specs.Journals.{event_of, events_of, IsWithin}

@@ -1,9 +1,9 @@
 -- What the calls need of a sound state.
-use Rattle.std.proofs.Common.{◌≡◌, ℕ, ◌+◌, ◌<◌, ◌≤◌, Bool, true, false, ◌==◌, ◌&&◌, List, length, Option, Some, None, refl, sym, ap, ◌∙◌, arith, nat_lt, slice_index_or}
-use Rattle.std.specs.List.{list_any, Contains}
+use Rattle.std.proofs.Common.{◌≡◌, ℕ, ◌<◌, Bool, true, false, ◌==◌, ◌&&◌, List, length, Option, Some, None, refl, sym, ◌∙◌, arith, nat_lt}
+use Rattle.std.specs.List.{Contains}
 use Rattle.std.proofs.lemmas.Bool.{and_from, ltb-true, ltb-false}
 use Rattle.std.proofs.lemmas.List.Folds.{list_any_at}
-use Rattle.tree_runs.specs.Shapes.{nodes_count, alternatives_at}
+use Rattle.tree_runs.specs.Shapes.{alternatives_at}
 use Rattle.tree_runs.specs.States.{TreeState, state_of}
 use Rattle.tree_runs.specs.Runs.{is_holding, is_run}
 use Rattle.tree_runs.specs.Soundness.{IsSound, is_committed}

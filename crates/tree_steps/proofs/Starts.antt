@@ -1,23 +1,22 @@
 -- A tree with its root alone.
-use Rattle.std.proofs.Common.{◌≡◌, ℕ, zero, suc, ◌+◌, ◌<◌, ◌≤◌, Bool, true, false, ◌==◌, ◌&&◌, ◌||◌, List, [], ◌∷◌, ◌++◌, map, length, Option, Some, None, All, IsPermutation, refl, sym, ap, subst, ◌∙◌, arith, nat_eq, nat_lt, slice_get}
+use Rattle.std.proofs.Common.{◌≡◌, ℕ, Bool, true, false, ◌==◌, ◌&&◌, ◌||◌, List, [], ◌∷◌, length, All, IsPermutation, refl, sym, ap, subst, ◌∙◌, arith, nat_eq, nat_lt}
 use Rattle.std.proofs.lemmas.List.Elements.{All-cons, All-nil}
 use Rattle.std.proofs.lemmas.List.Sorted.{list_any-IsPermutation, All-permutation, IsPermutation-map}
-use Rattle.std.proofs.lemmas.Bool.{and_parts, or_left, or_cases, eqb-true, ltb-true}
+use Rattle.std.proofs.lemmas.Bool.{and_parts, eqb-true, ltb-true}
 use Rattle.std.proofs.lemmas.Cmp.{nat_eq_equiv}
 use Rattle.std.proofs.lemmas.Map.Keys.{IsDistinct-IsPermutation}
 use Rattle.std.proofs.lemmas.Map.Made.{IsDistinct-from_count}
-use Rattle.tree_runs.specs.Shapes.{root_shape, TreeShape, above_at}
+use Rattle.tree_runs.specs.Shapes.{root_shape, TreeShape}
 use Rattle.tree_runs.specs.Marks.{is_relevant}
-use Rattle.tree_runs.specs.Addresses.{address_of}
-use Rattle.tree_runs.specs.States.{TreeNode, TreeState, TreeEvent, start, state_of, root_priority}
-use Rattle.tree_runs.specs.Best.{is_open, is_eligible}
+use Rattle.tree_runs.specs.States.{start, root_priority}
+use Rattle.tree_runs.specs.Best.{is_open}
 use Rattle.tree_marks.specs.TreeMarks.{Settled}
 use Rattle.tree_queue.specs.declared.entry.Entry.{Entry}
 use Rattle.tree_queue.specs.Orders.{IsPlaced}
 use Rattle.tree_queue.specs.Queues.{IsQueueOf}
 use Rattle.tree_queue.proofs.AddressLemmas.{address_of_root}
 use Rattle.tree_steps.specs.declared.tree.Tree.{Tree}
-use Rattle.tree_steps.specs.Trees.{has_node, nodes_of, IsEntryOf, FitsQueue, Shows, IsTree, contents_of}
+use Rattle.tree_steps.specs.Trees.{has_node, nodes_of, IsEntryOf, FitsQueue, IsTree}
 use Rattle.tree_steps.proofs.Regular.{regular_start}
 
 -- the root's entry

@@ -1,10 +1,9 @@
 -- A tree after a change of its parts.
-use Rattle.std.proofs.Common.{◌≡◌, ℕ, ◌+◌, ◌<◌, ◌≤◌, Bool, true, false, not, ◌&&◌, List, [], ◌∷◌, ◌++◌, map, length, Some, All, IsPermutation, refl, sym, ap, subst, ◌∙◌, arith, nat_lt, slice_get}
-use Rattle.std.proofs.lemmas.Bool.{and_parts, and_from, not_from_false, lt-ltb}
+use Rattle.std.proofs.Common.{◌≡◌, ℕ, ◌+◌, ◌<◌, ◌≤◌, true, false, List, [], ◌∷◌, ◌++◌, map, length, Some, All, IsPermutation, refl, sym, ap, subst, ◌∙◌, arith, slice_get}
+use Rattle.std.proofs.lemmas.Bool.{and_from, lt-ltb}
 use Rattle.std.proofs.lemmas.List.Elements.{All-cons}
-use Rattle.tree_runs.specs.Shapes.{TreeShape}
 use Rattle.tree_runs.specs.Marks.{is_decided, is_relevant}
-use Rattle.tree_runs.specs.States.{TreeNode, TreeState, TreeEvent, start, state_of, after, claim, release}
+use Rattle.tree_runs.specs.States.{TreeState, TreeEvent, start, state_of, after, claim}
 use Rattle.tree_runs.specs.Best.{is_best, is_open}
 use Rattle.tree_runs.specs.Runs.{is_busy, is_legal, is_run}
 use Rattle.tree_runs.proofs.Journals.{state_from-append, is_run_from-append}
@@ -15,7 +14,7 @@ use Rattle.tree_steps.specs.declared.tree.Holding.{Holding}
 use Rattle.tree_marks.specs.TreeMarks.{Settled}
 use Rattle.tree_steps.specs.Trees.{IsRegular, IsEntryOf, FitsQueue, Shows, IsTree, state_of_tree, contents_of}
 use Rattle.tree_steps.proofs.BestEntries.{best_is_best, best_open, best_described}
-use Rattle.tree_steps.proofs.Claims.{fits_claimed, entries_after_claim}
+use Rattle.tree_steps.proofs.Claims.{fits_claimed}
 use Rattle.tree_steps.proofs.Regular.{regular_claimed}
 
 module _ {S : Type 0} (branches : S → List (ℕ × List S)) (state : TreeState S) where

@@ -1,5 +1,5 @@
 -- What a contract sees of a journal.
-use Rattle.std.specs.Prelude.{◌≡◌, ℕ, ◌+◌, ◌≤◌, List, [], ◌∷◌, map, All, length, take, drop}
+use Rattle.std.specs.Prelude.{ℕ, ◌+◌, ◌≤◌, List, map, All, length, take, drop}
 use Rattle.tree_runs.specs.States.{TreeEvent, claim, commit, release}
 use Rattle.tree_steps.specs.declared.journal.Row.{Row}
 use Rattle.tree_steps.specs.declared.journal.Row.TheVariants.{Claim, Commit, Release}

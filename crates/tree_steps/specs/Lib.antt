@@ -1,3 +1,4 @@
 pub mod Seen
 pub mod Journals
 pub mod Trees
+pub mod Children

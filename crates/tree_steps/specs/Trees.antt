@@ -8,6 +8,7 @@ use Rattle.tree_runs.specs.Marks.{is_decided, is_proved, is_stuck}
 use Rattle.tree_steps.specs.declared.answers.Root.{Root}
 use Rattle.tree_steps.specs.declared.answers.Root.TheVariants.{Proved, Stuck, Undecided}
 use Rattle.std.specs.Option.{option_map}
+use Rattle.std.specs.Vec.{vec_capacity}
 use Rattle.tree_steps.specs.declared.answers.Claim.{Claim}
 use Rattle.tree_steps.specs.declared.answers.Claim.TheVariants.{Take, Decided, Spent, Idle}
 use Rattle.tree_runs.specs.Runs.{is_run}
@@ -98,6 +99,14 @@ module _ {P S N : Type 0} (branches : S → List (ℕ × List S)) (seen : N → 
   IsAnswer old new seat (Idle held) =
       (is_decided (state_of_tree old).shape 0 ≡ false) × (length (state_of_tree old).committed + length (state_of_tree old).held < old.budget) × ((node : ℕ) → is_eligible (state_of_tree old) node ≡ false)
       × (held ≡ length (state_of_tree old).held) × (0 < held) × (new.journal.events ≡ old.journal.events)
+
+-- there is room for so many alternatives and children of a node
+pub record HasRoomFor {P S N : Type 0} (width children : ℕ) (tree : Tree P N S) : Type 0 where
+  pub shape : children + width ≤ tree.shape.spare
+  pub marks : children ≤ tree.marks.spare
+  pub queue : length tree.held.items + children ≤ tree.queue.spare
+  pub counts : width ≤ tree.journal.spare_counts
+  pub others : length tree.others.items + children ≤ vec_capacity tree.others
 
 -- what is known of the root of a shape
 abbrev pub IsVerdict : TreeShape → Root → Type 0

@@ -1,22 +1,29 @@
 //! The tree.
 
-ghost use Rattle.std.specs.Prelude.{◌≡◌, ◌++◌, ℕ, ◌+◌, ◌<◌, ◌≤◌, List, [], ◌∷◌, All, Some, None, IfOk, IfSome, OnOk, OnErr, IsTrue, length, slice_get, true, false};
+ghost use Rattle.std.specs.Prelude.{◌≡◌, ◌++◌, ℕ, ◌+◌, ◌<◌, ◌≤◌, List, [], ◌∷◌, All, Some, None, IfOk, IfErr, IfSome, OnOk, OnErr, IsTrue, length, sum, slice_get, true, false};
 ghost use Rattle.std.specs.Prelude.{◌==◌, not, filter, Contains};
 ghost use Rattle.std.specs.List.{list_any};
+ghost use Rattle.std.specs.Option.{option_map};
 ghost use Rattle.std.specs.Vec.{vec_capacity};
 ghost use Rattle.tree_runs.specs.Marks.{is_decided, is_relevant, entry_at};
-ghost use Rattle.tree_runs.specs.States.{claim, release};
+ghost use Rattle.tree_runs.specs.States.{claim, commit, release};
 ghost use Rattle.tree_runs.specs.Runs.{is_busy, is_holding};
 ghost use Rattle.tree_queue.specs.Queues.{IsBestOf};
-ghost use Rattle.tree_steps.specs.Trees.{IsTree, IsAnswer, IsVerdict, held_by, state_of_tree};
+ghost use Rattle.tree_steps.specs.Children.{widths};
+ghost use Rattle.tree_steps.specs.Seen.{branches_seen, AllOwn};
+ghost use Rattle.tree_steps.specs.Trees.{IsTree, HasRoomFor, IsAnswer, IsVerdict, held_by, state_of_tree};
 ghost use Rattle.tree_runs.specs.Shapes.{alternatives_at};
 ghost use Rattle.tree_marks.specs.TreeMarks.{Settled};
 ghost use Rattle.tree_shape.specs.Room.{HasAlternative};
+ghost use Rattle.tree_steps.specs.declared.answers.Refused.TheVariants.{NoMemory as RefusedForMemory};
 
-use crate::answers::{Claim, Root};
+use crate::answers::{Claim, Refused, Root};
+use crate::branches::Branches;
+use crate::children::{counts_of, move_nodes, put_children, total_of};
 use crate::journal::Journal;
 use crate::problem::Problem;
-use basics::NoMemory;
+use basics::limits::LIST_LIMIT;
+use basics::{Ids, NoMemory};
 use std::alloc::Global;
 use tree_marks::Marks;
 use tree_queue::{Entry, Queue};
@@ -131,6 +138,117 @@ impl<P: Problem> Tree<P> {
         put_holding(&mut self.held, Holding { seat, entry });
         self.journal.add_claim(seat, entry.node);
         Ok(())
+    }
+}
+
+impl<P: Problem> Tree<P> {
+    /// Commits the node that a seat holds, with its branches: its children are open then. All growths come first. A refusal for want of
+    /// memory hands the branches back and changes nothing.
+    pub fn commit(
+        &mut self,
+        alloc: Global,
+        problem: &P,
+        node: u32,
+        seat: u32,
+        branches: Branches<P::Node>,
+    ) -> Result<(), Refused<P::Node>>
+        requires tree { IsTree (P.branches problem.now) (P.seen problem.now) (P.is_own problem.now) self.old }
+        requires holds { is_holding (state_of_tree (P.branches problem.now) (P.seen problem.now) (P.is_own problem.now) self.old) seat node ≡ true }
+        requires own { AllOwn (P.is_own problem.now) branches }
+        requires branches { Some (branches_seen (P.seen problem.now) branches) ≡ option_map (λ content. P.branches problem.now content.seen) (slice_get (state_of_tree (P.branches problem.now) (P.seen problem.now) (P.is_own problem.now) self.old).nodes node) }
+        ensures tree { IsTree (P.branches problem.now) (P.seen problem.now) (P.is_own problem.now) self.new }
+        ensures ok { OnOk result (self.new.journal.events ≡ self.old.journal.events ++ commit seat node (widths branches.alternatives.items) ∷ []) }
+        ensures err { OnErr result (self.new.journal.events ≡ self.old.journal.events) }
+        ensures back { IfErr result (λ refused. refused ≡ RefusedForMemory branches) }
+        ensures root { self.new.root ≡ self.old.root }
+        ensures budget { self.new.budget ≡ self.old.budget }
+    {
+        match self.reserve_children(alloc, problem, &branches) {
+            Ok(counts) => {
+                self.commit_grown(problem, node, seat, &counts, branches);
+                Ok(())
+            }
+            Err(_) => Err(Refused::NoMemory(branches)),
+        }
+    }
+
+    // Makes room for a commit of these branches, and answers how many children each alternative has. It changes nothing but the room.
+    fn reserve_children(
+        &mut self,
+        alloc: Global,
+        problem: &P,
+        branches: &Branches<P::Node>,
+    ) -> Result<Ids, NoMemory>
+        requires tree { IsTree (P.branches problem.now) (P.seen problem.now) (P.is_own problem.now) self.old }
+        ensures tree { IsTree (P.branches problem.now) (P.seen problem.now) (P.is_own problem.now) self.new }
+        ensures journal { self.new.journal.events ≡ self.old.journal.events }
+        ensures root { self.new.root ≡ self.old.root }
+        ensures budget { self.new.budget ≡ self.old.budget }
+        ensures counts { IfOk result (λ counts. counts ≡ widths branches.now.alternatives.items) }
+        ensures room { IfOk result (λ counts. HasRoomFor (length counts) (sum counts) self.new) }
+    {
+        let counts = counts_of(alloc, branches)?;
+        let width = counts.len();
+        let Some(children) = total_of(counts.as_slice()) else {
+            return Err(NoMemory);
+        };
+        if width > LIST_LIMIT as usize || children > LIST_LIMIT as usize {
+            return Err(NoMemory);
+        }
+        self.reserve_room(problem, width, children)?;
+        Ok(counts)
+    }
+
+    // Makes room for so many alternatives and children. It changes nothing but the room.
+    fn reserve_room(&mut self, problem: &P, width: usize, children: usize) -> Result<(), NoMemory>
+        requires width { width ≤ 2147483648 }
+        requires children { children ≤ 2147483648 }
+        requires tree { IsTree (P.branches problem.now) (P.seen problem.now) (P.is_own problem.now) self.old }
+        ensures tree { IsTree (P.branches problem.now) (P.seen problem.now) (P.is_own problem.now) self.new }
+        ensures journal { self.new.journal.events ≡ self.old.journal.events }
+        ensures root { self.new.root ≡ self.old.root }
+        ensures budget { self.new.budget ≡ self.old.budget }
+        ensures room { OnOk result (HasRoomFor width children self.new) }
+    {
+        let _known = problem;
+        self.journal.reserve(0, width)?;
+        self.shape.reserve(children + width)?;
+        self.marks.reserve(children)?;
+        self.queue.reserve(self.held.len() + children)?;
+        self.others.reserve(children)?;
+        Ok(())
+    }
+
+    // Commits where there is room for all.
+    fn commit_grown(
+        &mut self,
+        problem: &P,
+        node: u32,
+        seat: u32,
+        counts: &Ids,
+        branches: Branches<P::Node>,
+    )
+        requires tree { IsTree (P.branches problem.now) (P.seen problem.now) (P.is_own problem.now) self.old }
+        requires holds { is_holding (state_of_tree (P.branches problem.now) (P.seen problem.now) (P.is_own problem.now) self.old) seat node ≡ true }
+        requires own { AllOwn (P.is_own problem.now) branches }
+        requires branches { Some (branches_seen (P.seen problem.now) branches) ≡ option_map (λ content. P.branches problem.now content.seen) (slice_get (state_of_tree (P.branches problem.now) (P.seen problem.now) (P.is_own problem.now) self.old).nodes node) }
+        requires counts { counts.now ≡ widths branches.alternatives.items }
+        requires room { HasRoomFor (length counts.now) (sum counts.now) self.old }
+        ensures tree { IsTree (P.branches problem.now) (P.seen problem.now) (P.is_own problem.now) self.new }
+        ensures journal { self.new.journal.events ≡ self.old.journal.events ++ commit seat node (widths branches.alternatives.items) ∷ [] }
+        ensures root { self.new.root ≡ self.old.root }
+        ensures budget { self.new.budget ≡ self.old.budget }
+    {
+        let _known = problem;
+        let entry = held_entry(self.held.as_slice(), seat);
+        let first = self.shape.len();
+        self.shape.grow(node, counts);
+        self.marks.settle(&self.shape, node);
+        put_children(&mut self.queue, &self.shape, entry, first, &branches);
+        drop_seat(&mut self.held, seat);
+        move_nodes(&mut self.others, branches);
+        self.journal.add_commit(seat, node, counts);
+        self.commits += 1;
     }
 }
 

@@ -1,9 +1,7 @@
-use Rattle.std.proofs.Common.{◌≡◌, ◌==◌, ◌&&◌, ◌∙◌, sym, ap, subst, refl, true}
+use Rattle.std.proofs.Common.{◌≡◌, ◌==◌, ◌&&◌, sym, subst, refl, true}
 use Rattle.std.specs.List.{list_any, Contains}
-use Rattle.tree_runs.specs.Runs.{is_holding}
-use Rattle.tree_queue.specs.Queues.{IsQueueOf}
 use Rattle.tree_steps.specs.Trees.{state_of_tree}
-use Rattle.tree_steps.proofs.Holdings.{pair_of, entry_told, entry_is_of, released, some_there, placed_of}
+use Rattle.tree_steps.proofs.Holdings.{entry_told, released, some_there, placed_of}
 use Rattle.tree_steps.proofs.tree.Tree.release.Goals as goal
 
 pub held_entry-entry-requires : goal.held_entry-entry-requires

@@ -1,7 +1,7 @@
-use Rattle.std.proofs.Common.{◌≡◌, ◌+◌, ◌≤◌, ◌∙◌, ◌∷◌, ◌++◌, [], sym, ap, subst, refl, arith, length}
+use Rattle.std.proofs.Common.{◌∙◌, ◌∷◌, ◌++◌, [], ap, subst, refl, arith}
 use Rattle.tree_runs.specs.States.{claim}
 use Rattle.tree_queue.specs.Queues.{IsQueueOf}
-use Rattle.tree_steps.proofs.Steps.{SameParts, stays, claimed}
+use Rattle.tree_steps.proofs.Steps.{stays, claimed}
 use Rattle.tree_steps.proofs.tree.Tree.take_first.Goals as goal
 
 pub returns-in_err-reserve-clause-tree : goal.returns-in_err-reserve-clause-tree
