@@ -62,6 +62,8 @@ impl<P: Problem> Tree<P> {
         requires own { P.is_own problem.now root }
         ensures tree { IfOk result (IsTree (P.branches problem.now) (P.seen problem.now) (P.is_own problem.now)) }
         ensures journal { IfOk result (λ tree. tree.journal.events ≡ []) }
+        ensures root { IfOk result (λ tree. tree.root ≡ root) }
+        ensures budget { IfOk result (λ tree. tree.budget ≡ budget) }
     {
         let _known = problem;
         let shape = Shape::new(alloc)?;
