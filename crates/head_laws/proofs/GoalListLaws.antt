@@ -1,15 +1,15 @@
 -- The laws of lists of goals, as they are stated.
 use Rattle.lf_definitions.specs.GoalLists.{ids}
-use Rattle.head_laws.specs.Renumbering.{place_of}
-use Rattle.head_laws.specs.GoalListLaws.{AboveIsGreater, FormedGoalsAreClosed, UpToIsByPlace, UpToIsInjective, CanonNumbersByPlace, CanonIsUndone, CanonForgetsNumbers, RenumberedGoalsStayClosed}
+use Rattle.head_laws.specs.Renumbering.{place_of_number}
+use Rattle.head_laws.specs.GoalListLaws.{AboveIsGreater, GoalsMentionNoOthers, UpToIsByPlace, UpToIsInjective, CanonNumbersByPlace, CanonIsUndone, CanonForgetsNumbers, RenumberedGoalsStayClosed}
 use Rattle.head_laws.proofs.Numbers.{above-Contains, All-below_above, up_to-inside, up_to-outside, up_to-injective}
 use Rattle.head_laws.proofs.GoalNumbers.{AreClosed-FormedGoals, canon-undone, canon-rename_goal, distinct_ids, canon-numbers, AreClosed-rename_goal, AreDistinct-rename_goal, AreDistinct-canon}
 
 pub above_is_greater : AboveIsGreater
 above_is_greater = above-Contains
 
-pub formed_goals_are_closed : FormedGoalsAreClosed
-formed_goals_are_closed = AreClosed-FormedGoals
+pub goals_mention_no_others : GoalsMentionNoOthers
+goals_mention_no_others = AreClosed-FormedGoals
 
 pub up_to_is_by_place : UpToIsByPlace
 up_to_is_by_place ns n i = (up_to-inside ns n i, up_to-outside ns n i)
@@ -27,4 +27,4 @@ pub canon_forgets_numbers : CanonForgetsNumbers
 canon_forgets_numbers = canon-rename_goal
 
 pub renumbered_goals_stay_closed : RenumberedGoalsStayClosed
-renumbered_goals_stay_closed = (AreClosed-rename_goal, AreDistinct-rename_goal, (λ goals. AreClosed-rename_goal (place_of (ids goals)) goals), AreDistinct-canon)
+renumbered_goals_stay_closed = (AreClosed-rename_goal, AreDistinct-rename_goal, (λ goals. AreClosed-rename_goal (place_of_number (ids goals)) goals), AreDistinct-canon)

@@ -13,11 +13,11 @@ use Rattle.lf_definitions.specs.Signatures.{LfSignature, kinds_in, typing_in}
 use Rattle.lf_definitions.specs.GoalLists.{ids, AreDistinct, AreClosed, FormedGoal, FormedGoals}
 use Rattle.lf_definitions.specs.Instantiation.{metavariables, rename_goal, IsInjective}
 use Rattle.lf_definitions.proofs.Renaming.{after, lifted-after, same_head, rename_spine-rename_spine, rename_type-rename_type, rename_spine-same_head, rename_type-same_head, lifted-same_head}
-use Rattle.head_laws.specs.Renumbering.{place_of, canon, up_to}
+use Rattle.head_laws.specs.Renumbering.{place_of_number, canon, up_to}
 use Rattle.head_laws.proofs.Occurrence.{rename_spine-agree, rename_context-agree, came_type}
 use Rattle.head_laws.proofs.Metavariables.{goal_type-rename_goal}
 use Rattle.head_laws.proofs.Lookups.{has_type_type}
-use Rattle.head_laws.proofs.Numbers.{Contains-here, Contains-later, up_to-place_of, place_of-map, AllPairs-head, AllPairs-tail, place_of-at}
+use Rattle.head_laws.proofs.Numbers.{Contains-here, Contains-later, up_to-place_of_number, place_of_number-map, AllPairs-head, AllPairs-tail, place_of_number-at}
 
 -- well-formed binders over a well-formed type
 pub Formed-pis : {kinds : Kinds} {Γ : Typing} {ctx : Context} → FormedContext kinds Γ ctx → (a : LfType) → Formed kinds (with_context ctx Γ) a → Formed kinds Γ (pis ctx a)
@@ -116,15 +116,15 @@ map_map-stays ζ ρ (g ∷ rest) all =
     ap₂ (λ x xs. x ∷ xs) (All-head (λ m. rename_goal ζ (rename_goal ρ m) ≡ m) g rest all) (map_map-stays ζ ρ rest (All-tail (λ m. rename_goal ζ (rename_goal ρ m) ≡ m) g rest all))
 
 pub canon-undone : (goals : List LfGoal) (n : ℕ) → AreClosed goals → map (rename_goal (up_to (ids goals) n)) (canon goals) ≡ goals
-canon-undone goals n closed = map_map-stays (up_to (ids goals) n) (place_of (ids goals)) goals each
+canon-undone goals n closed = map_map-stays (up_to (ids goals) n) (place_of_number (ids goals)) goals each
   where
-    each : All (λ g. rename_goal (up_to (ids goals) n) (rename_goal (place_of (ids goals)) g) ≡ g) goals
+    each : All (λ g. rename_goal (up_to (ids goals) n) (rename_goal (place_of_number (ids goals)) g) ≡ g) goals
     each k d within =
         let g = slice_index_or goals k d in
-        rename_goal-rename_goal (up_to (ids goals) n) (place_of (ids goals)) g
-        ∙ rename_goal-stays (λ m. up_to (ids goals) n (place_of (ids goals) m)) g
-        (up_to-place_of (ids goals) n g.id (own_numbers goals k d within))
-        (λ m o. up_to-place_of (ids goals) n m (closed k d within m o))
+        rename_goal-rename_goal (up_to (ids goals) n) (place_of_number (ids goals)) g
+        ∙ rename_goal-stays (λ m. up_to (ids goals) n (place_of_number (ids goals) m)) g
+        (up_to-place_of_number (ids goals) n g.id (own_numbers goals k d within))
+        (λ m o. up_to-place_of_number (ids goals) n m (closed k d within m o))
 
 map_map : (ζ ρ : ℕ → ℕ) (xs : List LfGoal) → map (rename_goal ζ) (map (rename_goal ρ) xs) ≡ map (rename_goal (λ n. ζ (ρ n))) xs
 map_map ζ ρ [] = refl
@@ -132,9 +132,9 @@ map_map ζ ρ (g ∷ rest) = ap₂ (λ x xs. x ∷ xs) (rename_goal-rename_goal 
 
 pub canon-rename_goal : (ρ : ℕ → ℕ) → IsInjective ρ → (goals : List LfGoal) → canon (map (rename_goal ρ) goals) ≡ canon goals
 canon-rename_goal ρ injective goals =
-    ap (λ ns. map (rename_goal (place_of ns)) (map (rename_goal ρ) goals)) (ids-rename_goal ρ goals)
-    ∙ map_map (place_of (map ρ (ids goals))) ρ goals
-    ∙ ap (λ π. map (rename_goal π) goals) (fun_ext (place_of-map ρ injective (ids goals)))
+    ap (λ ns. map (rename_goal (place_of_number ns)) (map (rename_goal ρ) goals)) (ids-rename_goal ρ goals)
+    ∙ map_map (place_of_number (map ρ (ids goals))) ρ goals
+    ∙ ap (λ π. map (rename_goal π) goals) (fun_ext (place_of_number-map ρ injective (ids goals)))
 
 -- numbers that differ
 pub distinct_ids : (goals : List LfGoal) → AreDistinct goals → AllPairs (λ m k. m ≢ k) (ids goals)
@@ -162,9 +162,9 @@ canon-numbers goals distinct i less =
     let counted = length-ids goals in
     let within : i < length (ids goals) = omega arith in
     let found = goal_of_id goals i within in
-    ap (λ ns. slice_get ns i) (ids-rename_goal (place_of (ids goals)) goals)
-    ∙ slice_get-map (place_of (ids goals)) (ids goals) i found.0 found.1
-    ∙ ap Some (place_of-at (ids goals) i found.0 (distinct_ids goals distinct) within found.1)
+    ap (λ ns. slice_get ns i) (ids-rename_goal (place_of_number (ids goals)) goals)
+    ∙ slice_get-map (place_of_number (ids goals)) (ids goals) i found.0 found.1
+    ∙ ap Some (place_of_number-at (ids goals) i found.0 (distinct_ids goals distinct) within found.1)
 
 -- goals that are closed stay so
 Contains-map : (f : ℕ → ℕ) (ns : List ℕ) (n : ℕ) → Contains ns n → Contains (map f ns) (f n)
@@ -211,5 +211,5 @@ AreDistinct-undone υ ρ (g ∷ rest) undone distinct =
 
 pub AreDistinct-canon : (goals : List LfGoal) → AreDistinct goals → AreDistinct (canon goals)
 AreDistinct-canon goals =
-    AreDistinct-undone (up_to (ids goals) 0) (place_of (ids goals)) goals
-    (All-weaker (λ g. Contains (ids goals) g.id) (λ g. up_to (ids goals) 0 (place_of (ids goals) g.id) ≡ g.id) (λ g has. up_to-place_of (ids goals) 0 g.id has) goals (own_numbers goals))
+    AreDistinct-undone (up_to (ids goals) 0) (place_of_number (ids goals)) goals
+    (All-weaker (λ g. Contains (ids goals) g.id) (λ g. up_to (ids goals) 0 (place_of_number (ids goals) g.id) ≡ g.id) (λ g has. up_to-place_of_number (ids goals) 0 g.id has) goals (own_numbers goals))

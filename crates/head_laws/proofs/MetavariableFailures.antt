@@ -8,7 +8,7 @@ use Rattle.lf_definitions.specs.Failures.{FailsTerm, fails_lam, fails_at, fails_
 use Rattle.lf_definitions.specs.Instantiation.{metavariables, IsInjective}
 use Rattle.lf_definitions.proofs.Renaming.{rename_spine_inj, Follows, SubstitutedType-rename_type}
 use Rattle.lf_definitions.proofs.TypedSpines.{length-rename_context}
-use Rattle.head_laws.specs.MetavariableLaws.{HasTypesRenamed, KeepsKinds}
+use Rattle.head_laws.specs.MetavariableLaws.{HasTypesRenamed, KindsStay}
 use Rattle.head_laws.proofs.Metavariables.{lifted-metavariables, KeepsApart-metavariables, Follows-push_metavariables}
 use Rattle.head_laws.proofs.MetavariableTyping.{HasTypesRenamed-with_variable, head_renamed, head_unrenamed, results_renamed, results_unrenamed, Typed-renamed, TypedSpine-renamed, Typed-unrenamed, TypedSpine-unrenamed, Formed-renamed, Formed-unrenamed}
 use Rattle.head_laws.proofs.Unrenamed.{unrenamed_type}
@@ -126,7 +126,7 @@ mutual
       (FailsSpine-unrenamed ts bs ρ injective Γ Δ renamed (push t σ) (push (rename ζ t) τ) (Follows-push_metavariables ρ σ τ t follows)
       (subst (λ ξ. FailsSpine Δ (push (rename ζ t) τ) (rename_spine ζ ts) (rename_context ξ bs) (suc child) path) (lifted-metavariables ρ) p))
 
-pub FailsTypeFrom-renamed : {kinds : Kinds} {Γ : Typing} {a : LfType} {child : ℕ} {path : List ℕ} → FailsTypeFrom kinds Γ a child path → (ρ : ℕ → ℕ) → IsInjective ρ → (Δ : Typing) → HasTypesRenamed ρ Γ Δ → KeepsKinds ρ kinds →
+pub FailsTypeFrom-renamed : {kinds : Kinds} {Γ : Typing} {a : LfType} {child : ℕ} {path : List ℕ} → FailsTypeFrom kinds Γ a child path → (ρ : ℕ → ℕ) → IsInjective ρ → (Δ : Typing) → HasTypesRenamed ρ Γ Δ → KindsStay ρ kinds →
     FailsTypeFrom kinds Δ (rename_type (metavariables ρ) a) child path
 FailsTypeFrom-renamed (fails_binder kinds Γ a b child path p) ρ injective Δ renamed fixed =
     fails_binder kinds Δ (rename_type (metavariables ρ) a) (rename_type (lifted (metavariables ρ)) b) child path (FailsTypeFrom-renamed p ρ injective Δ renamed fixed)
@@ -143,7 +143,7 @@ FailsTypeFrom-renamed (fails_family_argument kinds Γ f args child bs path e cou
     fails_family_argument kinds Δ f (rename_spine ζ args) child bs path e (args_count-rename_spine args ζ ∙ count)
     (subst (λ xs. FailsSpine Δ stays (rename_spine ζ args) xs child path) (fixed f bs e) (FailsSpine-renamed p ρ injective Δ renamed stays (λ h. refl)))
 
-pub FailsTypeFrom-unrenamed : (a : LfType) {kinds : Kinds} {child : ℕ} {path : List ℕ} (ρ : ℕ → ℕ) → IsInjective ρ → (Γ Δ : Typing) → HasTypesRenamed ρ Γ Δ → KeepsKinds ρ kinds →
+pub FailsTypeFrom-unrenamed : (a : LfType) {kinds : Kinds} {child : ℕ} {path : List ℕ} (ρ : ℕ → ℕ) → IsInjective ρ → (Γ Δ : Typing) → HasTypesRenamed ρ Γ Δ → KindsStay ρ kinds →
     FailsTypeFrom kinds Δ (rename_type (metavariables ρ) a) child path → FailsTypeFrom kinds Γ a child path
 FailsTypeFrom-unrenamed (pi a b) {kinds} ρ injective Γ Δ renamed fixed (fails_binder _ _ _ _ child path p) = fails_binder kinds Γ a b child path (FailsTypeFrom-unrenamed a ρ injective Γ Δ renamed fixed p)
 FailsTypeFrom-unrenamed (pi a b) {kinds} ρ injective Γ Δ renamed fixed (fails_rest _ _ _ _ child path q p) =
@@ -160,7 +160,7 @@ FailsTypeFrom-unrenamed (family f args) {kinds} ρ injective Γ Δ renamed fixed
     (FailsSpine-unrenamed args bs ρ injective Γ Δ renamed stays stays (λ h. refl) (subst (λ xs. FailsSpine Δ stays (rename_spine ζ args) xs child path) (sym (fixed f bs e)) p))
 
 pub FailsContextFrom-renamed : {kinds : Kinds} {Γ : Typing} {ctx : Context} {child : ℕ} {path : List ℕ} → FailsContextFrom kinds Γ ctx child path → (ρ : ℕ → ℕ) → IsInjective ρ → (Δ : Typing) → HasTypesRenamed ρ Γ Δ →
-    KeepsKinds ρ kinds → FailsContextFrom kinds Δ (rename_context (metavariables ρ) ctx) child path
+    KindsStay ρ kinds → FailsContextFrom kinds Δ (rename_context (metavariables ρ) ctx) child path
 FailsContextFrom-renamed (fails_entry kinds Γ a rest child path p) ρ injective Δ renamed fixed =
     fails_entry kinds Δ (rename_type (metavariables ρ) a) (rename_context (lifted (metavariables ρ)) rest) child path (FailsTypeFrom-renamed p ρ injective Δ renamed fixed)
 FailsContextFrom-renamed (fails_entries kinds Γ a rest child path q p) ρ injective Δ renamed fixed =
@@ -169,7 +169,7 @@ FailsContextFrom-renamed (fails_entries kinds Γ a rest child path q p) ρ injec
     fails_entries kinds Δ (rename_type ζ a) (rename_context (lifted ζ) rest) child path (Formed-renamed q ρ Δ renamed fixed)
     (subst (λ ξ. FailsContextFrom kinds Θ (rename_context ξ rest) (suc child) path) (sym (lifted-metavariables ρ)) (FailsContextFrom-renamed p ρ injective Θ (HasTypesRenamed-with_variable ρ Γ Δ a renamed) fixed))
 
-pub FailsContextFrom-unrenamed : (ctx : Context) {kinds : Kinds} {child : ℕ} {path : List ℕ} (ρ : ℕ → ℕ) → IsInjective ρ → (Γ Δ : Typing) → HasTypesRenamed ρ Γ Δ → KeepsKinds ρ kinds →
+pub FailsContextFrom-unrenamed : (ctx : Context) {kinds : Kinds} {child : ℕ} {path : List ℕ} (ρ : ℕ → ℕ) → IsInjective ρ → (Γ Δ : Typing) → HasTypesRenamed ρ Γ Δ → KindsStay ρ kinds →
     FailsContextFrom kinds Δ (rename_context (metavariables ρ) ctx) child path → FailsContextFrom kinds Γ ctx child path
 FailsContextFrom-unrenamed [] ρ injective Γ Δ renamed fixed p = elim p [ ]
 FailsContextFrom-unrenamed (a ∷ rest) {kinds} ρ injective Γ Δ renamed fixed (fails_entry _ _ _ _ child path p) = fails_entry kinds Γ a rest child path (FailsTypeFrom-unrenamed a ρ injective Γ Δ renamed fixed p)

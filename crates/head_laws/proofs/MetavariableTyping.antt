@@ -9,7 +9,7 @@ use Rattle.lf_definitions.proofs.Renaming.{rename_spine_inj, Follows, Substitute
 use Rattle.lf_definitions.proofs.Failures.{binders_of, family_args_of, binders_of-pis, conclusion-pis, family_args_of-pis}
 use Rattle.lf_definitions.proofs.Decisions.{pis-binders_of}
 use Rattle.lf_definitions.proofs.Options.{Some-Some}
-use Rattle.head_laws.specs.MetavariableLaws.{HasTypesRenamed, KeepsKinds}
+use Rattle.head_laws.specs.MetavariableLaws.{HasTypesRenamed, KindsStay}
 use Rattle.head_laws.proofs.Metavariables.{lifted-metavariables, rename_type-raise, KeepsApart-metavariables, rename_type-pis_metavariables, Follows-push_metavariables}
 use Rattle.head_laws.proofs.Unrenamed.{unrenamed_spine, unrenamed_type}
 
@@ -126,7 +126,7 @@ mutual
       (TypedSpine-unrenamed ts bs ρ injective Γ Δ renamed (push t σ) (push (rename ζ t) τ) (Follows-push_metavariables ρ σ τ t follows)
       (subst (λ ξ. TypedSpine Δ (push (rename ζ t) τ) (rename_spine ζ ts) (rename_context ξ bs)) (lifted-metavariables ρ) ps))
 
-pub Formed-renamed : {kinds : Kinds} {Γ : Typing} {a : LfType} → Formed kinds Γ a → (ρ : ℕ → ℕ) (Δ : Typing) → HasTypesRenamed ρ Γ Δ → KeepsKinds ρ kinds → Formed kinds Δ (rename_type (metavariables ρ) a)
+pub Formed-renamed : {kinds : Kinds} {Γ : Typing} {a : LfType} → Formed kinds Γ a → (ρ : ℕ → ℕ) (Δ : Typing) → HasTypesRenamed ρ Γ Δ → KindsStay ρ kinds → Formed kinds Δ (rename_type (metavariables ρ) a)
 Formed-renamed {kinds} (formed_pi {Γ = Γ} {a = a} {b = b} p q) ρ Δ renamed fixed =
     let Θ = with_variable (rename_type (metavariables ρ) a) Δ in
     formed_pi (Formed-renamed p ρ Δ renamed fixed)
@@ -134,7 +134,7 @@ Formed-renamed {kinds} (formed_pi {Γ = Γ} {a = a} {b = b} p q) ρ Δ renamed f
 Formed-renamed (formed_family {f = f} {args = ts} bs e ps) ρ Δ renamed fixed =
     formed_family bs e (subst (TypedSpine Δ stays (rename_spine (metavariables ρ) ts)) (fixed f bs e) (TypedSpine-renamed ps ρ Δ renamed stays (λ h. refl)))
 
-pub Formed-unrenamed : (a : LfType) {kinds : Kinds} (ρ : ℕ → ℕ) → IsInjective ρ → (Γ Δ : Typing) → HasTypesRenamed ρ Γ Δ → KeepsKinds ρ kinds → Formed kinds Δ (rename_type (metavariables ρ) a) → Formed kinds Γ a
+pub Formed-unrenamed : (a : LfType) {kinds : Kinds} (ρ : ℕ → ℕ) → IsInjective ρ → (Γ Δ : Typing) → HasTypesRenamed ρ Γ Δ → KindsStay ρ kinds → Formed kinds Δ (rename_type (metavariables ρ) a) → Formed kinds Γ a
 Formed-unrenamed (pi a b) {kinds} ρ injective Γ Δ renamed fixed (formed_pi p q) =
     let Θ = with_variable (rename_type (metavariables ρ) a) Δ in
     formed_pi (Formed-unrenamed a ρ injective Γ Δ renamed fixed p)
@@ -142,7 +142,7 @@ Formed-unrenamed (pi a b) {kinds} ρ injective Γ Δ renamed fixed (formed_pi p 
 Formed-unrenamed (family f ts) ρ injective Γ Δ renamed fixed (formed_family bs e ps) =
     formed_family bs e (TypedSpine-unrenamed ts bs ρ injective Γ Δ renamed stays stays (λ h. refl) (subst (TypedSpine Δ stays (rename_spine (metavariables ρ) ts)) (sym (fixed f bs e)) ps))
 
-pub FormedContext-renamed : {kinds : Kinds} {Γ : Typing} {ctx : Context} → FormedContext kinds Γ ctx → (ρ : ℕ → ℕ) (Δ : Typing) → HasTypesRenamed ρ Γ Δ → KeepsKinds ρ kinds →
+pub FormedContext-renamed : {kinds : Kinds} {Γ : Typing} {ctx : Context} → FormedContext kinds Γ ctx → (ρ : ℕ → ℕ) (Δ : Typing) → HasTypesRenamed ρ Γ Δ → KindsStay ρ kinds →
     FormedContext kinds Δ (rename_context (metavariables ρ) ctx)
 FormedContext-renamed formed_empty ρ Δ renamed fixed = formed_empty
 FormedContext-renamed {kinds} (formed_entry {Γ = Γ} {a = a} {rest = rest} p q) ρ Δ renamed fixed =
@@ -150,7 +150,7 @@ FormedContext-renamed {kinds} (formed_entry {Γ = Γ} {a = a} {rest = rest} p q)
     formed_entry (Formed-renamed p ρ Δ renamed fixed)
     (subst (λ ξ. FormedContext kinds Θ (rename_context ξ rest)) (sym (lifted-metavariables ρ)) (FormedContext-renamed q ρ Θ (HasTypesRenamed-with_variable ρ Γ Δ a renamed) fixed))
 
-pub FormedContext-unrenamed : (ctx : Context) {kinds : Kinds} (ρ : ℕ → ℕ) → IsInjective ρ → (Γ Δ : Typing) → HasTypesRenamed ρ Γ Δ → KeepsKinds ρ kinds → FormedContext kinds Δ (rename_context (metavariables ρ) ctx) →
+pub FormedContext-unrenamed : (ctx : Context) {kinds : Kinds} (ρ : ℕ → ℕ) → IsInjective ρ → (Γ Δ : Typing) → HasTypesRenamed ρ Γ Δ → KindsStay ρ kinds → FormedContext kinds Δ (rename_context (metavariables ρ) ctx) →
     FormedContext kinds Γ ctx
 FormedContext-unrenamed [] ρ injective Γ Δ renamed fixed formed_empty = formed_empty
 FormedContext-unrenamed (a ∷ rest) {kinds} ρ injective Γ Δ renamed fixed (formed_entry p q) =

@@ -8,7 +8,7 @@ use Rattle.std.proofs.lemmas.List.Elements.{All-nil, All-cons, All-head, All-tai
 use Rattle.lf_definitions.proofs.Options.{Some-Some}
 use Rattle.lf_definitions.specs.GoalLists.{above}
 use Rattle.lf_definitions.specs.Instantiation.{IsInjective}
-use Rattle.head_laws.specs.Renumbering.{place_of, up_to}
+use Rattle.head_laws.specs.Renumbering.{place_of_number, up_to}
 
 pub Contains-here : {X : Type 0} (x : X) (xs : List X) → Contains (x ∷ xs) x
 Contains-here x xs = (0, omega arith, refl)
@@ -30,21 +30,21 @@ pub All-below_above : (ns : List ℕ) (n : ℕ) → above ns ≤ n → All (λ m
 All-below_above ns n le = All-weaker (λ m. m < above ns) (λ m. m < n) (λ m less. omega arith) ns (below_above ns)
 
 -- places and numbers
-place_of-step : (m n : ℕ) (rest : List ℕ) (b : Bool) → nat_eq m n ≡ b → place_of (m ∷ rest) n ≡ (if b then zero else suc (place_of rest n))
-place_of-step m n rest b e = ap (λ c. if c then zero else suc (place_of rest n)) e
+place_of_number-step : (m n : ℕ) (rest : List ℕ) (b : Bool) → nat_eq m n ≡ b → place_of_number (m ∷ rest) n ≡ (if b then zero else suc (place_of_number rest n))
+place_of_number-step m n rest b e = ap (λ c. if c then zero else suc (place_of_number rest n)) e
 
 -- The number at the place of a number that is there is this number.
-pub up_to-place_of : (ns : List ℕ) (k n : ℕ) → Contains ns n → up_to ns k (place_of ns n) ≡ n
-up_to-place_of [] k n has = let less = has.1 in absurd (omega arith)
-up_to-place_of (m ∷ rest) k n has = each (nat_eq m n) refl (λ there. up_to-place_of rest k n there)
+pub up_to-place_of_number : (ns : List ℕ) (k n : ℕ) → Contains ns n → up_to ns k (place_of_number ns n) ≡ n
+up_to-place_of_number [] k n has = let less = has.1 in absurd (omega arith)
+up_to-place_of_number (m ∷ rest) k n has = each (nat_eq m n) refl (λ there. up_to-place_of_number rest k n there)
   where
     there_of : nat_eq m n ≡ false → (i : ℕ) → i < suc (length rest) → get_or (m ∷ rest) i n ≡ n → Contains rest n
     there_of e zero less same = let equal : nat_eq m n ≡ true = eq-eqb m n same in absurd cc
     there_of e (suc i) less same = (i, omega arith, same)
 
-    each : (b : Bool) → nat_eq m n ≡ b → (Contains rest n → up_to rest k (place_of rest n) ≡ n) → up_to (m ∷ rest) k (place_of (m ∷ rest) n) ≡ n
-    each true e later = ap (up_to (m ∷ rest) k) (place_of-step m n rest true e) ∙ eqb-true m n e
-    each false e later = ap (up_to (m ∷ rest) k) (place_of-step m n rest false e) ∙ later (there_of e has.0 has.1 has.2)
+    each : (b : Bool) → nat_eq m n ≡ b → (Contains rest n → up_to rest k (place_of_number rest n) ≡ n) → up_to (m ∷ rest) k (place_of_number (m ∷ rest) n) ≡ n
+    each true e later = ap (up_to (m ∷ rest) k) (place_of_number-step m n rest true e) ∙ eqb-true m n e
+    each false e later = ap (up_to (m ∷ rest) k) (place_of_number-step m n rest false e) ∙ later (there_of e has.0 has.1 has.2)
 
 -- Numbers that stay different are the same where they were.
 pub nat_eq-map : (ρ : ℕ → ℕ) → IsInjective ρ → (m n : ℕ) → nat_eq (ρ m) (ρ n) ≡ nat_eq m n
@@ -58,10 +58,10 @@ nat_eq-map ρ injective m n = each (nat_eq m n) refl
     each false e = ne_eqb (ρ m) (ρ n) (λ q. differ e (injective m n q)) ∙ sym e
 
 -- So they have the same places.
-pub place_of-map : (ρ : ℕ → ℕ) → IsInjective ρ → (ns : List ℕ) (n : ℕ) → place_of (map ρ ns) (ρ n) ≡ place_of ns n
-place_of-map ρ injective [] n = refl
-place_of-map ρ injective (m ∷ rest) n =
-    ap₂ (λ b k. if b then zero else suc k) (nat_eq-map ρ injective m n) (place_of-map ρ injective rest n)
+pub place_of_number-map : (ρ : ℕ → ℕ) → IsInjective ρ → (ns : List ℕ) (n : ℕ) → place_of_number (map ρ ns) (ρ n) ≡ place_of_number ns n
+place_of_number-map ρ injective [] n = refl
+place_of_number-map ρ injective (m ∷ rest) n =
+    ap₂ (λ b k. if b then zero else suc k) (nat_eq-map ρ injective m n) (place_of_number-map ρ injective rest n)
 
 -- numbers by their places
 pub up_to-inside : (ns : List ℕ) (n i : ℕ) → i < length ns → slice_get ns i ≡ Some (up_to ns n i)
@@ -100,12 +100,12 @@ up_to-injective (m ∷ rest) n apart below (suc i) (suc j) e =
     ap suc (up_to-injective rest n (AllPairs-tail (λ x y. x ≢ y) m rest apart) (All-tail (λ k. k < n) m rest below) i j e)
 
 -- Where numbers differ, each has the place at which it stands.
-pub place_of-at : (ns : List ℕ) (i : ℕ) (n : ℕ) → AllPairs (λ m k. m ≢ k) ns → i < length ns → slice_get ns i ≡ Some n → place_of ns n ≡ i
-place_of-at [] i n apart less at_i = absurd (omega arith)
-place_of-at (m ∷ rest) zero n apart less at_i = place_of-step m n rest true (eq-eqb m n (Some-Some at_i))
-place_of-at (m ∷ rest) (suc i) n apart less at_i =
+pub place_of_number-at : (ns : List ℕ) (i : ℕ) (n : ℕ) → AllPairs (λ m k. m ≢ k) ns → i < length ns → slice_get ns i ≡ Some n → place_of_number ns n ≡ i
+place_of_number-at [] i n apart less at_i = absurd (omega arith)
+place_of_number-at (m ∷ rest) zero n apart less at_i = place_of_number-step m n rest true (eq-eqb m n (Some-Some at_i))
+place_of_number-at (m ∷ rest) (suc i) n apart less at_i =
     let differ : m ≢ n = later rest i at_i (AllPairs-head (λ x y. x ≢ y) m rest apart) (omega arith) in
-    place_of-step m n rest false (ne_eqb m n differ) ∙ ap suc (place_of-at rest i n (AllPairs-tail (λ x y. x ≢ y) m rest apart) (omega arith) at_i)
+    place_of_number-step m n rest false (ne_eqb m n differ) ∙ ap suc (place_of_number-at rest i n (AllPairs-tail (λ x y. x ≢ y) m rest apart) (omega arith) at_i)
   where
     later : (xs : List ℕ) (k : ℕ) → slice_get xs k ≡ Some n → All (λ x. m ≢ x) xs → k < length xs → m ≢ n
     later [] k e all within = absurd (omega arith)

@@ -12,7 +12,7 @@ use Rattle.lf_definitions.specs.GoalLists.{ids, above, AreDistinct, FormedGoal, 
 use Rattle.lf_definitions.specs.Instantiation.{metavariables, rename_goal, IsInjective}
 use Rattle.lf_definitions.proofs.Renaming.{same_head, rename_type-same_head}
 use Rattle.lf_definitions.proofs.ShapedGoals.{ShapedTyping-typing_in}
-use Rattle.head_laws.specs.MetavariableLaws.{HasTypesRenamed, KeepsKinds}
+use Rattle.head_laws.specs.MetavariableLaws.{HasTypesRenamed, KindsStay}
 use Rattle.head_laws.specs.Renumbering.{canon, up_to}
 use Rattle.head_laws.proofs.Occurrence.{rename_type-agree, rename_context-agree}
 use Rattle.head_laws.proofs.Known.{known_type, known_context}
@@ -31,8 +31,8 @@ unchanged sig ρ (bound n) known = refl
 unchanged sig ρ (constant c) known = refl
 unchanged sig ρ (metavariable g) known = let none = known.1 in absurd cc
 
-pub KeepsKinds-kinds_in : (sig : LfSignature) → ShapedSignature sig → (ρ : ℕ → ℕ) → KeepsKinds ρ (kinds_in sig)
-KeepsKinds-kinds_in sig shaped ρ f kind e =
+pub KindsStay-kinds_in : (sig : LfSignature) → ShapedSignature sig → (ρ : ℕ → ℕ) → KindsStay ρ (kinds_in sig)
+KindsStay-kinds_in sig shaped ρ f kind e =
     rename_context-agree kind (metavariables ρ) same_head (λ h o. unchanged sig ρ h (known_context ((of_signature sig shaped).of_families f kind e) h o)) ∙ rename_context-same_head kind
 
 pub rename_type-constant : (sig : LfSignature) → ShapedSignature sig → (ρ : ℕ → ℕ) (c : ℕ) (a : LfType) → type_at (constant_types sig) c ≡ Some a → rename_type (metavariables ρ) a ≡ a
@@ -94,8 +94,8 @@ module _ (sig : LfSignature) (shaped : ShapedSignature sig) (ρ : ℕ → ℕ) (
   here : (ctx : Context) → HasTypesRenamed ρ (typing_in sig goals ctx) (typing_in sig renamed_goals (rename_context (metavariables ρ) ctx))
   here ctx = HasTypesRenamed-typing_in sig shaped ρ injective goals ctx
 
-  fixed : KeepsKinds ρ (kinds_in sig)
-  fixed = KeepsKinds-kinds_in sig shaped ρ
+  fixed : KindsStay ρ (kinds_in sig)
+  fixed = KindsStay-kinds_in sig shaped ρ
 
   goal_renamed : (g : LfGoal) → FormedGoal sig goals g → FormedGoal sig renamed_goals (rename_goal ρ g)
   goal_renamed g p = (

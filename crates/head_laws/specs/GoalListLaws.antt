@@ -11,8 +11,8 @@ abbrev pub AboveIsGreater : Type 0
 AboveIsGreater = (ns : List ℕ) (n : ℕ) → Contains ns n → n < above ns
 
 -- Where goals are well formed, each metavariable that one mentions is one of them.
-abbrev pub FormedGoalsAreClosed : Type 0
-FormedGoalsAreClosed = (sig : LfSignature) (goals : List LfGoal) → FormedGoals sig goals → AreClosed goals
+abbrev pub GoalsMentionNoOthers : Type 0
+GoalsMentionNoOthers = (sig : LfSignature) (goals : List LfGoal) → FormedGoals sig goals → AreClosed goals
 
 -- `up_to` gives the number at a place, and numbers from `n` on past the end.
 abbrev pub UpToIsByPlace : Type 0

@@ -56,24 +56,24 @@ abbrev pub HasTypesRenamed : (ℕ → ℕ) → Typing → Typing → Type 0
 HasTypesRenamed ρ Γ Δ = (h : LfHead) → Δ (metavariables ρ h) ≡ option_map (rename_type (metavariables ρ)) (Γ h)
 
 -- Kinds mention no metavariable.
-abbrev pub KeepsKinds : (ℕ → ℕ) → Kinds → Type 0
-KeepsKinds ρ kinds = (f : ℕ) (kind : LfKind) → kinds f ≡ Some kind → rename_context (metavariables ρ) kind ≡ kind
+abbrev pub KindsStay : (ℕ → ℕ) → Kinds → Type 0
+KindsStay ρ kinds = (f : ℕ) (kind : LfKind) → kinds f ≡ Some kind → rename_context (metavariables ρ) kind ≡ kind
 
 -- Then what is typed or well formed is so once it is renamed, and nothing else becomes so.
 abbrev pub TypingIsRenamed : Type 0
 TypingIsRenamed =
     (ρ : ℕ → ℕ) → IsInjective ρ → (Γ Δ : Typing) → HasTypesRenamed ρ Γ Δ →
     ((t : LfTerm) (a : LfType) → Typed Γ t a ↔ Typed Δ (rename (metavariables ρ) t) (rename_type (metavariables ρ) a))
-    × ((kinds : Kinds) → KeepsKinds ρ kinds → (a : LfType) → Formed kinds Γ a ↔ Formed kinds Δ (rename_type (metavariables ρ) a))
-    × ((kinds : Kinds) → KeepsKinds ρ kinds → (ctx : Context) → FormedContext kinds Γ ctx ↔ FormedContext kinds Δ (rename_context (metavariables ρ) ctx))
+    × ((kinds : Kinds) → KindsStay ρ kinds → (a : LfType) → Formed kinds Γ a ↔ Formed kinds Δ (rename_type (metavariables ρ) a))
+    × ((kinds : Kinds) → KindsStay ρ kinds → (ctx : Context) → FormedContext kinds Γ ctx ↔ FormedContext kinds Δ (rename_context (metavariables ρ) ctx))
 
 -- The first failure is at the same path.
 abbrev pub FailuresAreRenamed : Type 0
 FailuresAreRenamed =
     (ρ : ℕ → ℕ) → IsInjective ρ → (Γ Δ : Typing) → HasTypesRenamed ρ Γ Δ →
     ((t : LfTerm) (a : LfType) (path : List ℕ) → FailsTerm Γ t a path ↔ FailsTerm Δ (rename (metavariables ρ) t) (rename_type (metavariables ρ) a) path)
-    × ((kinds : Kinds) → KeepsKinds ρ kinds → (a : LfType) (child : ℕ) (path : List ℕ) → FailsTypeFrom kinds Γ a child path ↔ FailsTypeFrom kinds Δ (rename_type (metavariables ρ) a) child path)
-    × ((kinds : Kinds) → KeepsKinds ρ kinds → (ctx : Context) (child : ℕ) (path : List ℕ) →
+    × ((kinds : Kinds) → KindsStay ρ kinds → (a : LfType) (child : ℕ) (path : List ℕ) → FailsTypeFrom kinds Γ a child path ↔ FailsTypeFrom kinds Δ (rename_type (metavariables ρ) a) child path)
+    × ((kinds : Kinds) → KindsStay ρ kinds → (ctx : Context) (child : ℕ) (path : List ℕ) →
     FailsContextFrom kinds Γ ctx child path ↔ FailsContextFrom kinds Δ (rename_context (metavariables ρ) ctx) child path)
 
 -- A head occurs where its new one does afterwards.

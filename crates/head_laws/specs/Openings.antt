@@ -39,22 +39,22 @@ abbrev pub fresh_term : ℕ → Context → LfType → LfTerm
 fresh_term g entries inside = lams (length (binders_of inside)) (at (metavariable g) (own_variables (arrows (shapes_of_types (entries ++ binders_of inside)) base)))
 
 -- The arguments of a type from the i-th on, where `σ` puts the terms of those before: their terms, the fresh goals, which have the numbers from `first` on, and the conclusion.
-pub data OpensFrom (ctx : Context) (kept : List ℕ) (entries : Context) (fixed : List (ℕ × ℕ)) : Replacement → ℕ → ℕ → LfType → Spine → List LfGoal → LfAtom → Type 0 where
+pub data IsOpenedFrom (ctx : Context) (kept : List ℕ) (entries : Context) (fixed : List (ℕ × ℕ)) : Replacement → ℕ → ℕ → LfType → Spine → List LfGoal → LfAtom → Type 0 where
   -- The conclusion has all terms substituted.
   opens_conclusion : {σ : Replacement} {i first f : ℕ} {args results : Spine} → SubstitutedSpine σ args results →
-      OpensFrom ctx kept entries fixed σ i first (family f args) no_args [] (record { atom_family = f; atom_args = results })
+      IsOpenedFrom ctx kept entries fixed σ i first (family f args) no_args [] (record { atom_family = f; atom_args = results })
   -- The term of a fixed argument is the eta-long form of its hypothesis.
   opens_fixed : {σ : Replacement} {i first place : ℕ} {a b : LfType} {ts : Spine} {goals : List LfGoal} {end : LfAtom} → fixed_to fixed i ≡ Some place →
-      OpensFrom ctx kept entries fixed (push (eta (variable_at (length ctx) place) (shape_of a)) σ) (suc i) first b ts goals end →
-      OpensFrom ctx kept entries fixed σ i first (pi a b) (arg (eta (variable_at (length ctx) place) (shape_of a)) ts) goals end
+      IsOpenedFrom ctx kept entries fixed (push (eta (variable_at (length ctx) place) (shape_of a)) σ) (suc i) first b ts goals end →
+      IsOpenedFrom ctx kept entries fixed σ i first (pi a b) (arg (eta (variable_at (length ctx) place) (shape_of a)) ts) goals end
   -- For any other argument there is a fresh goal: the argument's type, with the terms before substituted, is that of the goal, seen from the whole context.
   opens_fresh : {σ : Replacement} {i first : ℕ} {a b : LfType} (inside : LfType) {ts : Spine} {goals : List LfGoal} {end : LfAtom} → fixed_to fixed i ≡ None →
       SubstitutedType σ a (rename_type (keeping (length ctx) kept) inside) →
-      OpensFrom ctx kept entries fixed (push (rename (keeping (length ctx) kept) (fresh_term first entries inside)) σ) (suc i) (suc first) b ts goals end →
-      OpensFrom ctx kept entries fixed σ i first (pi a b) (arg (rename (keeping (length ctx) kept) (fresh_term first entries inside)) ts) (fresh_goal first entries inside ∷ goals) end
+      IsOpenedFrom ctx kept entries fixed (push (rename (keeping (length ctx) kept) (fresh_term first entries inside)) σ) (suc i) (suc first) b ts goals end →
+      IsOpenedFrom ctx kept entries fixed σ i first (pi a b) (arg (rename (keeping (length ctx) kept) (fresh_term first entries inside)) ts) (fresh_goal first entries inside ∷ goals) end
 
 -- A type is opened in a context, with some places kept and some arguments fixed to hypotheses, and fresh numbers from `first` on.
-pub record Opens (ctx : Context) (kept : List ℕ) (fixed : List (ℕ × ℕ)) (first : ℕ) (type : LfType) (terms : Spine) (fresh : List LfGoal) (conclusion : LfAtom) : Type 0 where
+pub record IsOpened (ctx : Context) (kept : List ℕ) (fixed : List (ℕ × ℕ)) (first : ℕ) (type : LfType) (terms : Spine) (fresh : List LfGoal) (conclusion : LfAtom) : Type 0 where
   pub entries : Context
   pub are_kept : AreKept ctx kept entries
-  pub opened : OpensFrom ctx kept entries fixed stays 0 first type terms fresh conclusion
+  pub opened : IsOpenedFrom ctx kept entries fixed stays 0 first type terms fresh conclusion

@@ -7,14 +7,14 @@ use Rattle.lf_definitions.specs.Signatures.{LfSignature, constant_types, kinds_i
 use Rattle.lf_definitions.specs.ShapedGoals.{ShapedSignature}
 use Rattle.lf_definitions.specs.GoalLists.{FormedGoals}
 use Rattle.lf_definitions.specs.Instantiation.{metavariables, rename_goal, IsInjective}
-use Rattle.head_laws.specs.MetavariableLaws.{HasTypesRenamed, KeepsKinds}
+use Rattle.head_laws.specs.MetavariableLaws.{HasTypesRenamed, KindsStay}
 use Rattle.head_laws.specs.Renumbering.{canon}
 
 -- The kinds and the types of a shaped signature mention no metavariable.
 abbrev pub SignaturesMentionNoMetavariable : Type 0
 SignaturesMentionNoMetavariable =
     (sig : LfSignature) → ShapedSignature sig → (ρ : ℕ → ℕ) →
-    KeepsKinds ρ (kinds_in sig) × ((c : ℕ) (a : LfType) → type_at (constant_types sig) c ≡ Some a → rename_type (metavariables ρ) a ≡ a)
+    KindsStay ρ (kinds_in sig) × ((c : ℕ) (a : LfType) → type_at (constant_types sig) c ≡ Some a → rename_type (metavariables ρ) a ≡ a)
 
 -- Among renamed goals, and in a renamed context, each head has its type, renamed.
 abbrev pub RenamedGoalsHaveTypesRenamed : Type 0

@@ -8,7 +8,7 @@ ghost use Rattle.head_laws.specs.ReplacementLaws.{TypesAndContextsHaveOneResult,
 ghost use Rattle.head_laws.specs.AssignmentLaws.{AssignmentsCompose, AssignmentsHaveAComposite, InstantiationGoesAlongWithSubstitution};
 ghost use Rattle.head_laws.specs.MetavariableLaws.{ResultsOfRenamedTermsAreRenamed, InstantiationsAreRenamed, ResultsOfInstantiationAreRenamed, RenamedMetavariablesKeepShapes, TypingIsRenamed, FailuresAreRenamed, MetavariablesOccurRenamed, GoalTypesAreRenamed};
 ghost use Rattle.head_laws.specs.LookupLaws.{TypingLooksUpWhatOccurs, TypedHeadsAreKnown, GoalsMayChange};
-ghost use Rattle.head_laws.specs.GoalListLaws.{AboveIsGreater, FormedGoalsAreClosed, UpToIsByPlace, UpToIsInjective, CanonNumbersByPlace, CanonIsUndone, CanonForgetsNumbers, RenumberedGoalsStayClosed};
+ghost use Rattle.head_laws.specs.GoalListLaws.{AboveIsGreater, GoalsMentionNoOthers, UpToIsByPlace, UpToIsInjective, CanonNumbersByPlace, CanonIsUndone, CanonForgetsNumbers, RenumberedGoalsStayClosed};
 ghost use Rattle.head_laws.specs.RenamedGoalLaws.{SignaturesMentionNoMetavariable, RenamedGoalsHaveTypesRenamed, RenamedGoalsAreFormed};
 
 /// Whether a head occurs in a term, a spine, a type or a context is decided by truth values, and so is whether it does rigidly.
@@ -132,8 +132,8 @@ pub fn above_is_greater()
 {}
 
 /// Goals that are well formed mention no metavariable but these goals.
-pub fn formed_goals_are_closed()
-    ensures { FormedGoalsAreClosed }
+pub fn goals_mention_no_others()
+    ensures { GoalsMentionNoOthers }
 {}
 
 /// `up_to` gives the number at a place of a list, and further numbers past its end.
