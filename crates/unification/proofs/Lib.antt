@@ -1,0 +1,15 @@
+pub mod Tests
+pub mod Readings
+pub mod PatternSpines
+pub mod Spreading
+pub mod Solvings
+pub mod Assigning
+pub mod ShapedSteps
+pub mod SameTerms
+pub mod Situations
+pub mod OneTransition
+pub mod Remaining
+pub mod Measures
+pub mod Endings
+pub mod Resolved
+pub mod Laws

@@ -1,0 +1,5 @@
+pub mod Patterns
+pub mod Equations
+pub mod Transitions
+pub mod Solutions
+pub mod Laws
