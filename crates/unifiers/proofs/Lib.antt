@@ -1,0 +1,12 @@
+pub mod Completion
+pub mod Following
+pub mod Spines
+pub mod Patterns
+pub mod Values
+pub mod Assigning
+pub mod Entries
+pub mod Solved
+pub mod Steps
+pub mod Occurrences
+pub mod Stops
+pub mod Laws
