@@ -7,4 +7,3 @@ pub mod MetavariableLaws
 pub mod LookupLaws
 pub mod GoalListLaws
 pub mod RenamedGoalLaws
-pub mod Openings

@@ -1,0 +1,13 @@
+pub mod Kept
+pub mod Expanded
+pub mod Uniqueness
+pub mod Shapes
+pub mod Numbers
+pub mod Existence
+pub mod Mentions
+pub mod Renamed
+pub mod KeptTypes
+pub mod KeptVariables
+pub mod Laws
+pub mod Typed
+pub mod AllKept
