@@ -3,6 +3,8 @@ use Rattle.std.specs.Prelude.{ℕ, ◌+◌, ◌≤◌, List, map, All, length, t
 use Rattle.tree_runs.specs.States.{TreeEvent, claim, commit, release}
 use Rattle.tree_steps.specs.declared.journal.Row.{Row}
 use Rattle.tree_steps.specs.declared.journal.Row.TheVariants.{Claim, Commit, Release}
+use Rattle.tree_steps.specs.declared.journal.Event.{Event}
+use Rattle.tree_steps.specs.declared.journal.Event.TheVariants.{Claim as Claimed, Commit as Committed, Release as Released}
 
 -- the events, and how many more fit with no memory taken, and so many more counts
 pub record JournalRoom : Type 0 where
@@ -30,3 +32,9 @@ pub record HoldsRows (rows : List Row) (counts : List ℕ) (rows_capacity counts
   pub rows_room : length rows + spare ≤ rows_capacity
   pub counts_room : length counts + spare_counts ≤ counts_capacity
   pub numbers : length counts + spare_counts ≤ 2147483648
+
+-- an event as it is answered
+abbrev pub event_shown : Event → TreeEvent
+event_shown (Claimed seat node) = claim seat node
+event_shown (Committed seat node counts) = commit seat node counts.now
+event_shown (Released seat node) = release seat node

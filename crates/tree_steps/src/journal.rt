@@ -2,6 +2,7 @@
 
 ghost use Rattle.std.specs.Prelude.{◌≡◌, ◌++◌, ℕ, ◌+◌, ◌<◌, ◌≤◌, List, [], ◌∷◌, Some, None, IfSome, IfNone, OnOk, length, slice_get, vec_capacity};
 ghost use Rattle.tree_runs.specs.States.{TreeEvent, claim, commit, release};
+ghost use Rattle.tree_steps.specs.Journals.{event_shown};
 
 use basics::limits::LIST_LIMIT;
 use basics::{Ids, NoMemory};
@@ -62,6 +63,23 @@ impl Journal {
         ensures { result ≡ length self.now.events }
     {
         self.rows.len()
+    }
+
+    /// The event at a place. It takes no memory.
+    pub fn event(&self, place: usize) -> Event<'_>
+        requires { place < length self.now.events }
+        ensures { Some (event_shown result) ≡ slice_get self.now.events place }
+    {
+        let row = self.rows[place];
+        match row {
+            Row::Claim(seat, node) => Event::Claim(seat, node),
+            Row::Commit(seat, node, start, width) => {
+                let from = start as usize;
+                let to = from + width as usize;
+                Event::Commit(seat, node, &self.counts[from..to])
+            }
+            Row::Release(seat, node) => Event::Release(seat, node),
+        }
     }
 
     /// Makes room for more events and more counts. A refusal changes nothing but the room, which never falls.
