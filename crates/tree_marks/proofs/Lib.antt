@@ -1,4 +1,4 @@
-mod Entries
+pub mod Entries
 mod Climbs
 mod Freshness
 mod Knowing

@@ -105,3 +105,12 @@ pub record KnowsOthers (shape : TreeShape) (proved stuck : List Bool) (known : L
   pub knows_stuck : (other : ℕ) → (other ≡ node → ⊥) → KnowsStuck shape stuck known other
   pub unproved : marked proved node ≡ false
   pub unstuck : marked stuck node ≡ false
+
+-- whether all children of an alternative are proved, where there is one
+abbrev pub entry_proved : (ℕ → Bool) → Option (ℕ × ℕ) → Bool
+entry_proved proved None = false
+entry_proved proved (Some entry) = all_children proved entry
+
+-- whether the node has this alternative, and all its children are proved
+abbrev pub is_alternative_proved : TreeShape → ℕ → ℕ → Bool
+is_alternative_proved shape node alternative = entry_proved (is_proved shape) (entry_at (alternatives_at shape node) alternative)

@@ -2,11 +2,13 @@
 
 ghost use Rattle.std.specs.Prelude.{◌≡◌, ◌+◌, ◌-◌, ◌<◌, ◌≤◌, ◌++◌, length, replicate, vec_capacity, IfOk, OnOk};
 ghost use Rattle.tree_runs.specs.Shapes.{root_shape, nodes_count};
-ghost use Rattle.tree_marks.specs.TreeMarks.{marked, unmarked, Settled, JustGrown, Begins, KnowsOthers};
+ghost use Rattle.tree_shape.specs.Room.{HasAlternative};
+ghost use Rattle.tree_marks.specs.TreeMarks.{marked, unmarked, Settled, JustGrown, Begins, KnowsOthers, is_alternative_proved};
 
 use crate::climb::{climb, is_settled_at};
 use crate::known::begin_passing;
 use crate::refresh::{refresh_from, refresh_node};
+use crate::scans::are_all_proved;
 use basics::NoMemory;
 use basics::limits::LIST_LIMIT;
 use std::alloc::Global;
@@ -102,7 +104,7 @@ fn spread(
 }
 
 impl Marks {
-    /// The root alone, undecided. It is refused for want of memory.
+    /// The root alone, undecided. It is refused when out of memory.
     pub fn new(alloc: Global) -> Result<Marks, NoMemory>
         ensures { IfOk result (λ made. Settled root_shape made.marks) }
     {
@@ -186,6 +188,16 @@ impl Marks {
         ensures { result ≡ marked self.now.marks.stuck node }
     {
         self.stuck[node as usize]
+    }
+
+    /// Whether all children of an alternative that a node has are proved. It takes no memory.
+    pub fn proves(&self, shape: &Shape, node: u32, alternative: u32) -> bool
+        requires has { HasAlternative shape.now.shape node alternative }
+        requires marks { Settled shape.now.shape self.now.marks }
+        ensures { result ≡ is_alternative_proved shape.now.shape node alternative }
+    {
+        let (first, count) = shape.children(node, alternative);
+        are_all_proved(self.proved.as_slice(), first, count)
     }
 
     /// Whether a node that stands is relevant.

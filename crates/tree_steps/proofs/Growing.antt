@@ -26,7 +26,7 @@ use Rattle.tree_steps.specs.Children.{children_of, nodes_made, widths}
 use Rattle.tree_steps.specs.Trees.{IsRegular, IsEntryOf, FitsQueue, IsTree, state_of_tree, entries_from}
 use Rattle.tree_steps.proofs.ChildEntries.{child_entries, made_seen}
 use Rattle.tree_steps.proofs.Commits.{entries_tell}
-use Rattle.tree_steps.proofs.Committed.{Commits, commit_legal, commit_state, committed}
+use Rattle.tree_steps.proofs.Committed.{commit_legal, commit_state, committed}
 use Rattle.tree_steps.proofs.Holdings.{entry_told, entry_is_of, in_state, placed_of}
 use Rattle.tree_steps.proofs.SoundRuns.{regular_of_sound}
 use Rattle.tree_steps.proofs.Steps.{SameParts, stays}

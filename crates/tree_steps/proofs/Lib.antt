@@ -13,3 +13,5 @@ mod Idling
 mod Committed
 mod ChildEntries
 mod Growing
+mod Choosing
+mod HeldSeats

@@ -11,8 +11,8 @@ use Rattle.std.specs.Option.{option_map}
 use Rattle.std.specs.Vec.{vec_capacity}
 use Rattle.tree_steps.specs.declared.answers.Claim.{Claim}
 use Rattle.tree_steps.specs.declared.answers.Claim.TheVariants.{Take, Decided, Spent, Idle}
-use Rattle.tree_runs.specs.Runs.{is_run}
-use Rattle.tree_marks.specs.TreeMarks.{Settled}
+use Rattle.tree_runs.specs.Runs.{is_busy, is_holding, is_run}
+use Rattle.tree_marks.specs.TreeMarks.{Settled, is_alternative_proved}
 use Rattle.tree_queue.specs.Queues.{IsQueueOf}
 use Rattle.tree_steps.specs.declared.tree.Tree.{Tree}
 use Rattle.tree_steps.specs.declared.tree.Holding.{Holding}
@@ -117,3 +117,19 @@ IsVerdict shape Undecided = is_decided shape 0 ≡ false
 -- the node that a seat holds
 abbrev pub held_by : List Holding → ℕ → Option ℕ
 held_by holdings seat = option_map (λ holding. holding.entry.node) (find (λ holding. holding.seat == seat) holdings)
+
+-- The node that a seat holds, by the state.
+abbrev pub IsHeld : {S : Type 0} → TreeState S → ℕ → Option ℕ → Type 0
+IsHeld state seat None = is_busy state seat ≡ false
+IsHeld state seat (Some node) = is_holding state seat node ≡ true
+
+-- The seat holds the node, and what stands there is seen as this.
+pub record HoldsSeen {S : Type 0} (state : TreeState S) (seat node : ℕ) (seen : S) : Type 0 where
+  pub holds : is_holding state seat node ≡ true
+  pub there : Some seen ≡ option_map (λ content. content.seen) (slice_get state.nodes node)
+
+-- the least alternative of a node all of whose children are proved
+abbrev pub IsChosen : TreeShape → ℕ → Option ℕ → Type 0
+IsChosen shape node None = (alternative : ℕ) → is_alternative_proved shape node alternative ≡ false
+IsChosen shape node (Some alternative) =
+    (is_alternative_proved shape node alternative ≡ true) × ((other : ℕ) → other < alternative → is_alternative_proved shape node other ≡ false)

@@ -1,18 +1,18 @@
 //! The tree.
 
 ghost use Rattle.std.specs.Prelude.{◌≡◌, ◌++◌, ℕ, ◌+◌, ◌<◌, ◌≤◌, List, [], ◌∷◌, All, Some, None, IfOk, IfErr, IfSome, OnOk, OnErr, IsTrue, length, sum, slice_get, true, false};
-ghost use Rattle.std.specs.Prelude.{◌==◌, not, filter, Contains};
+ghost use Rattle.std.specs.Prelude.{◌↔◌, ◌==◌, ◌&&◌, not, filter, is_some, Contains};
 ghost use Rattle.std.specs.List.{list_any};
 ghost use Rattle.std.specs.Option.{option_map};
 ghost use Rattle.std.specs.Vec.{vec_capacity};
-ghost use Rattle.tree_runs.specs.Marks.{is_decided, is_relevant, entry_at};
+ghost use Rattle.tree_runs.specs.Marks.{is_decided, is_proved, is_relevant, entry_at};
 ghost use Rattle.tree_runs.specs.States.{claim, commit, release};
 ghost use Rattle.tree_runs.specs.Runs.{is_busy, is_holding};
 ghost use Rattle.tree_queue.specs.Queues.{IsBestOf};
 ghost use Rattle.tree_steps.specs.Children.{widths};
 ghost use Rattle.tree_steps.specs.Seen.{branches_seen, AllOwn};
-ghost use Rattle.tree_steps.specs.Trees.{IsTree, HasRoomFor, IsAnswer, IsVerdict, held_by, state_of_tree};
-ghost use Rattle.tree_runs.specs.Shapes.{alternatives_at};
+ghost use Rattle.tree_steps.specs.Trees.{IsTree, HasRoomFor, IsAnswer, IsVerdict, IsHeld, HoldsSeen, IsChosen, held_by, state_of_tree};
+ghost use Rattle.tree_runs.specs.Shapes.{nodes_count, alternatives_at};
 ghost use Rattle.tree_marks.specs.TreeMarks.{Settled};
 ghost use Rattle.tree_shape.specs.Room.{HasAlternative};
 ghost use Rattle.tree_steps.specs.declared.answers.Refused.TheVariants.{NoMemory as RefusedForMemory};
@@ -93,7 +93,7 @@ impl<P: Problem> Tree<P> {
 
     /// Claims the best node for a seat that holds nothing, and answers its number and an equal copy of its content. `Decided` comes exactly
     /// where the root is decided, `Spent` where it is undecided and as many nodes as the budget are committed or held, and `Idle` where
-    /// neither holds and no node is open and relevant. These change nothing, nor does a refusal for want of memory.
+    /// neither holds and no node is open and relevant. These change nothing, nor does a refusal when out of memory.
     pub fn claim(&mut self, problem: &P, seat: u32) -> Result<Claim<P::Node>, NoMemory>
         requires tree { IsTree (P.branches problem.now) (P.seen problem.now) (P.is_own problem.now) self.old }
         requires idle { is_busy (state_of_tree (P.branches problem.now) (P.seen problem.now) (P.is_own problem.now) self.old) seat ≡ false }
@@ -144,7 +144,7 @@ impl<P: Problem> Tree<P> {
 }
 
 impl<P: Problem> Tree<P> {
-    /// Commits the node that a seat holds, with its branches: its children are open then. All growths come first. A refusal for want of
+    /// Commits the node that a seat holds, with its branches: its children are open then. All growths come first. A refusal when out of
     /// memory hands the branches back and changes nothing.
     pub fn commit(
         &mut self,
@@ -295,11 +295,45 @@ impl<P: Problem> Tree<P> {
         &self.journal
     }
 
-    /// The node that a seat holds, and nothing where it holds none.
+    /// The node that a seat holds, and nothing where it holds none. It takes no memory.
     pub fn held(&self, seat: u32) -> Option<u32>
-        ensures { result ≡ held_by self.now.held.items seat }
+        ensures kept { result ≡ held_by self.now.held.items seat }
+        ensures state { (problem : P) → IsTree (P.branches problem) (P.seen problem) (P.is_own problem) self.now
+            → IsHeld (state_of_tree (P.branches problem) (P.seen problem) (P.is_own problem) self.now) seat result }
     {
         held_node(self.held.as_slice(), seat)
+    }
+
+    /// Whether a seat holds this node, and the node's content equals this own one. It takes no memory.
+    pub fn holds(&self, problem: &P, node: u32, seat: u32, content: &P::Node) -> bool
+        requires tree { IsTree (P.branches problem.now) (P.seen problem.now) (P.is_own problem.now) self.now }
+        requires own { P.is_own problem.now content.now }
+        ensures { IsTrue result
+            ↔ HoldsSeen (state_of_tree (P.branches problem.now) (P.seen problem.now) (P.is_own problem.now) self.now) seat node (P.seen problem.now content.now) }
+    {
+        if !is_held(self.held.as_slice(), seat, node) {
+            return false;
+        }
+        problem.same(node_at(&self.root, self.others.as_slice(), node), content)
+    }
+
+    /// The least alternative of a node that stands all of whose children are proved. There is one exactly where the node is proved. It
+    /// takes no memory.
+    pub fn chosen(&self, node: u32) -> Option<u32>
+        requires stands { node < nodes_count self.now.shape.shape }
+        requires marks { Settled self.now.shape.shape self.now.marks.marks }
+        ensures least { IsChosen self.now.shape.shape node result }
+        ensures proved { is_some result ≡ is_proved self.now.shape.shape node }
+    {
+        let Some(width) = self.shape.width(node) else {
+            return None;
+        };
+        for alternative in 0..width {
+            if self.marks.proves(&self.shape, node, alternative) {
+                return Some(alternative);
+            }
+        }
+        None
     }
 
     /// The number of the first child of an alternative that a committed node has, 0 where it has none, and how many children it has.
@@ -318,6 +352,13 @@ fn held_node(held: &[Holding], seat: u32) -> Option<u32>
     held.iter()
         .find(|holding| holding.seat == seat)
         .map(|holding| holding.entry.node)
+}
+
+// Whether a seat holds this node.
+fn is_held(held: &[Holding], seat: u32, node: u32) -> bool
+    ensures { result ≡ list_any (λ holding. holding.seat == seat && holding.entry.node == node) held.now }
+{
+    held.iter().any(|holding| holding.seat == seat && holding.entry.node == node)
 }
 
 // The entry of the node that a seat holds.
