@@ -36,7 +36,7 @@ impl Model for Shape {
 }
 
 impl Shape {
-    /// The root, node 0, alone. It is refused for want of memory.
+    /// The root, node 0, alone. It is refused when out of memory.
     pub fn new(alloc: Global) -> Result<Shape, NoMemory>
         ensures { IfOk result (λ made. made.shape ≡ root_shape) }
     {

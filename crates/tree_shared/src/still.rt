@@ -33,7 +33,7 @@ fn take_step<P: Problem>(alloc: Global, problem: &P, tree: &mut Tree<P>) -> Resu
 }
 
 /// Searches as seat 0 alone: it claims the best node and commits its branches until the root is decided or as many nodes as the budget are
-/// committed. It is refused for want of memory. The budget is at least 1.
+/// committed. It is refused when out of memory. The budget is at least 1.
 pub fn search_still<P: Problem>(
     alloc: Global,
     problem: &P,

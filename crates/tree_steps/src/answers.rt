@@ -12,7 +12,7 @@ pub enum Claim<N> {
     Idle(u32),
 }
 
-/// A commit was refused for want of memory; the branches come back.
+/// A commit was refused when out of memory; the branches come back.
 #[derive(Drop)]
 pub enum Refused<N> {
     NoMemory(Branches<N>),

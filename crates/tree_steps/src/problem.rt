@@ -23,13 +23,13 @@ pub trait Problem {
     /// For each alternative its percentage and as what its children are seen.
     ghost branches: { Self → Self.Seen → List (ℕ × List Self.Seen) };
 
-    /// The branches of an own node. It is refused for want of memory.
+    /// The branches of an own node. It is refused when out of memory.
     fn expand(&self, node: &Self::Node) -> Result<Branches<Self::Node>, NoMemory>
         requires { is_own self.now node.now }
         ensures own { IfOk result (AllOwn (is_own self.now)) }
         ensures branches { IfOk result (λ made. branches_seen (seen self.now) made ≡ branches self.now (seen self.now node.now)) };
 
-    /// An equal node. It is refused for want of memory.
+    /// An equal node. It is refused when out of memory.
     fn copy(&self, node: &Self::Node) -> Result<Self::Node, NoMemory>
         requires { is_own self.now node.now }
         ensures own { IfOk result (is_own self.now) }
