@@ -1,0 +1,13 @@
+pub mod Replacing
+pub mod Instances
+pub mod Laws
+pub mod ReplacingLaws
+pub mod Checking
+pub mod CheckingLaws
+pub mod InstanceLaws
+pub mod ShapeTests
+pub mod Endings
+pub mod EndingLaws
+pub mod CompositionLaws
+pub mod MentionLaws
+pub mod TypedInstanceLaws
