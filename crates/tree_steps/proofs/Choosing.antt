@@ -10,17 +10,17 @@ use Rattle.tree_marks.specs.TreeMarks.{entry_proved, is_alternative_proved}
 use Rattle.tree_marks.proofs.Entries.{has_width, entry_known, not_grown, proved_found, proved_refuted}
 
 -- no alternative before this one has only proved children
-abbrev pub NoneBefore : TreeShape → ℕ → ℕ → Type 0
-NoneBefore shape node bound = (other : ℕ) → other < bound → is_alternative_proved shape node other ≡ false
+abbrev pub NoneProvedBefore : TreeShape → ℕ → ℕ → Type 0
+NoneProvedBefore shape node bound = (other : ℕ) → other < bound → is_alternative_proved shape node other ≡ false
 
-pub one_more : (shape : TreeShape) (node bound : ℕ) → NoneBefore shape node bound → is_alternative_proved shape node bound ≡ false → NoneBefore shape node (bound + 1)
+pub one_more : (shape : TreeShape) (node bound : ℕ) → NoneProvedBefore shape node bound → is_alternative_proved shape node bound ≡ false → NoneProvedBefore shape node (bound + 1)
 one_more shape node bound h here other small = elim (below_or_past bound other) [
   | inl before ↦ h other before
   | inr p ↦ let same : other ≡ bound = omega (arith, p.1) in ap (is_alternative_proved shape node) same ∙ here
 ]
 
 -- none is past the last
-pub none_at_all : (shape : TreeShape) (node width bound : ℕ) → Some width ≡ option_map length (alternatives_at shape node) → width ≤ bound → NoneBefore shape node bound → (alternative : ℕ) → is_alternative_proved shape node alternative ≡ false
+pub none_at_all : (shape : TreeShape) (node width bound : ℕ) → Some width ≡ option_map length (alternatives_at shape node) → width ≤ bound → NoneProvedBefore shape node bound → (alternative : ℕ) → is_alternative_proved shape node alternative ≡ false
 none_at_all shape node width bound e enough h alternative = elim (below_or_past bound alternative) [
   | inl before ↦ h alternative before
   | inr p ↦

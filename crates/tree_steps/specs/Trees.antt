@@ -129,7 +129,7 @@ pub record HoldsSeen {S : Type 0} (state : TreeState S) (seat node : ℕ) (seen 
   pub there : Some seen ≡ option_map (λ content. content.seen) (slice_get state.nodes node)
 
 -- the least alternative of a node all of whose children are proved
-abbrev pub IsChosen : TreeShape → ℕ → Option ℕ → Type 0
-IsChosen shape node None = (alternative : ℕ) → is_alternative_proved shape node alternative ≡ false
-IsChosen shape node (Some alternative) =
+abbrev pub IsLeastProved : TreeShape → ℕ → Option ℕ → Type 0
+IsLeastProved shape node None = (alternative : ℕ) → is_alternative_proved shape node alternative ≡ false
+IsLeastProved shape node (Some alternative) =
     (is_alternative_proved shape node alternative ≡ true) × ((other : ℕ) → other < alternative → is_alternative_proved shape node other ≡ false)

@@ -11,7 +11,7 @@ ghost use Rattle.tree_runs.specs.Runs.{is_busy, is_holding};
 ghost use Rattle.tree_queue.specs.Queues.{IsBestOf};
 ghost use Rattle.tree_steps.specs.Children.{widths};
 ghost use Rattle.tree_steps.specs.Seen.{branches_seen, AllOwn};
-ghost use Rattle.tree_steps.specs.Trees.{IsTree, HasRoomFor, IsAnswer, IsVerdict, IsHeld, HoldsSeen, IsChosen, held_by, state_of_tree};
+ghost use Rattle.tree_steps.specs.Trees.{IsTree, HasRoomFor, IsAnswer, IsVerdict, IsHeld, HoldsSeen, IsLeastProved, held_by, state_of_tree};
 ghost use Rattle.tree_runs.specs.Shapes.{nodes_count, alternatives_at};
 ghost use Rattle.tree_marks.specs.TreeMarks.{Settled};
 ghost use Rattle.tree_shape.specs.Room.{HasAlternative};
@@ -322,7 +322,7 @@ impl<P: Problem> Tree<P> {
     pub fn chosen(&self, node: u32) -> Option<u32>
         requires stands { node < nodes_count self.now.shape.shape }
         requires marks { Settled self.now.shape.shape self.now.marks.marks }
-        ensures least { IsChosen self.now.shape.shape node result }
+        ensures least { IsLeastProved self.now.shape.shape node result }
         ensures proved { is_some result ≡ is_proved self.now.shape.shape node }
     {
         let Some(width) = self.shape.width(node) else {
