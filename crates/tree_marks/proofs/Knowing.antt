@@ -1,5 +1,5 @@
 -- What is known of children and alternatives, when marks are written at one node.
-use Rattle.std.proofs.Common.{◌≡◌, ◌≢◌, inl, inr, ℕ, zero, suc, ◌+◌, ◌<◌, ◌≤◌, Bool, true, false, ◌||◌, List, [], ◌∷◌, length, Option, Some, None, refl, sym, ap, subst, ◌∙◌, arith}
+use Rattle.std.proofs.Common.{◌≡◌, ◌≢◌, inl, inr, ℕ, zero, suc, ◌<◌, ◌≤◌, Bool, true, false, ◌||◌, List, [], ◌∷◌, length, Option, Some, None, refl, sym, ap, subst, ◌∙◌, arith}
 use Rattle.std.specs.Prelude.{slice_get, slice_set}
 use Rattle.std.specs.Option.{option_map, option_flatten}
 use Rattle.std.specs.List.{list_any, list_all}
@@ -8,10 +8,11 @@ use Rattle.std.proofs.lemmas.Option.{slice_get_cases, slice_get_within}
 use Rattle.tree_runs.specs.Shapes.{TreeShape, nodes_count, above_at, alternatives_at, IsChild, IsShape}
 use Rattle.tree_runs.specs.Marks.{all_from, all_children, some_child, proved_by, stuck_by, entry_at}
 use Rattle.tree_runs.proofs.Lists.{same_or_other}
-use Rattle.tree_runs.proofs.Marks.{all_from-agree, any_from-agree, all_from-weaker, any_from-weaker, above-rises}
-use Rattle.tree_marks.specs.TreeMarks.{marked, run_of, passed_of, EachEntry, NoneStuck, KnowsProved, KnowsStuck}
+use Rattle.tree_runs.proofs.Marks.{all_from-weaker, any_from-weaker, above-rises}
+use Rattle.tree_marks.specs.TreeMarks.{marked, IsLocalAt, run_of, passed_of, EachEntry, NoneStuck, KnowsProved, KnowsStuck}
 use Rattle.tree_shape.specs.Room.{HasAlternative}
-use Rattle.tree_marks.proofs.Climbs.{get_or-set-same, get_or-set-other, only_parent, other_parent, ClimbsTo}
+use Rattle.tree_marks.specs.Fading.{Fading, IsSpread, DecidesOne}
+use Rattle.tree_marks.proofs.Climbs.{get_or-set-same, get_or-set-other, only_parent, other_parent, all_kept_at, some_kept_at}
 use Rattle.tree_marks.proofs.Entries.{children_stand, list_any-none, has_width, entry_known, proved_found, stuck_refuted, stuck_found}
 
 -- fewer of those that pass
@@ -135,31 +136,18 @@ written_grows flags flags' node flag within e rises n h = elim (same_or_other n 
   | inr ne ↦ ap (λ xs. marked xs n) e ∙ get_or-set-other flags node n flag false ne ∙ h
 ]
 
--- children below other alternatives keep their flags
-module _ (shape : TreeShape) (node : ℕ) (flags flags' : List Bool) (elsewhere : (other : ℕ) → other ≢ node → marked flags' other ≡ marked flags other)
-    (n i : ℕ) (entry : ℕ × ℕ) (free : (place : ℕ) → IsChild shape n i place node → ⊥) where
-  away : (all : List (ℕ × ℕ)) → alternatives_at shape n ≡ Some all → slice_get all i ≡ Some entry → (place : ℕ) → place < entry.1 → entry.0 + place ≢ node
-  away all g f place within e = free place (subst (IsChild shape n i place) e (record { all = all; first = entry.0; count = entry.1; grown = g; there = f; within = within; number = refl }))
-
-  all_kept_at : (o : Option (List (ℕ × ℕ))) → alternatives_at shape n ≡ o → entry_at o i ≡ Some entry → all_children (marked flags') entry ≡ all_children (marked flags) entry
-  all_kept_at None g f = absurd cc
-  all_kept_at (Some all) g f = all_from-agree (marked flags') (marked flags) entry.0 entry.1 (λ place within. elsewhere (entry.0 + place) (away all g f place within))
-
-  some_kept_at : (o : Option (List (ℕ × ℕ))) → alternatives_at shape n ≡ o → entry_at o i ≡ Some entry → some_child (marked flags') entry ≡ some_child (marked flags) entry
-  some_kept_at None g f = absurd cc
-  some_kept_at (Some all) g f = any_from-agree (marked flags') (marked flags) entry.0 entry.1 (λ place within. elsewhere (entry.0 + place) (away all g f place within))
-
 -- ---- the climb
 
--- how far it has come: the marks that this node is to have, and what is known
-pub record Climbing (shape : TreeShape) (old_proved old_stuck proved stuck : List Bool) (known : List (ℕ × ℕ)) (node : ℕ) (is_proved is_stuck : Bool) : Type 0 where
-  pub climbs : ClimbsTo shape old_proved old_stuck proved stuck node
+-- How far it has come: the marks that this node is to have, what is known, and that irrelevance is spread.
+pub record Climbing (shape : TreeShape) (proved stuck : List Bool) (known : List (ℕ × ℕ)) (fading : Fading) (node : ℕ) (is_proved is_stuck : Bool) : Type 0 where
+  pub others : (other : ℕ) → (other ≡ node → ⊥) → IsLocalAt shape proved stuck other
   pub proved_is : is_proved ≡ proved_by (marked proved) (alternatives_at shape node)
   pub stuck_is : is_stuck ≡ stuck_by (marked stuck) (alternatives_at shape node)
   pub proved_rises : marked proved node ≡ true → is_proved ≡ true
   pub stuck_rises : marked stuck node ≡ true → is_stuck ≡ true
   pub knows_proved : KnowsProved proved known
   pub knows_stuck : (n : ℕ) → KnowsStuck shape stuck known n
+  pub spread : IsSpread shape proved stuck fading
 
 -- what holds above a node that was just marked
 pub record Above (shape : TreeShape) (proved stuck : List Bool) (known : List (ℕ × ℕ)) (node alternative : ℕ) : Type 0 where
@@ -171,17 +159,17 @@ pub record Above (shape : TreeShape) (proved stuck : List Bool) (known : List (�
   pub next : (alternative ≡ passed_of known node → ⊥) → NoneStuck shape stuck node (passed_of known node)
   pub others : (n : ℕ) → (n ≡ node → ⊥) → NoneStuck shape stuck n (passed_of known n)
 
-pub above : (shape : TreeShape) → IsShape shape → (old_proved old_stuck proved stuck proved' stuck' : List Bool) (known : List (ℕ × ℕ)) (node : ℕ) (way : ℕ × ℕ × ℕ) (p s : Bool) →
-    Climbing shape old_proved old_stuck proved stuck known node p s → node < length proved → node < length stuck → proved' ≡ slice_set proved node p → stuck' ≡ slice_set stuck node s → above_at shape node ≡ Some way →
+pub above : (shape : TreeShape) → IsShape shape → (proved stuck proved' stuck' : List Bool) (known : List (ℕ × ℕ)) (fading : Fading) (node : ℕ) (way : ℕ × ℕ × ℕ) (p s : Bool) →
+    Climbing shape proved stuck known fading node p s → node < length proved → node < length stuck → proved' ≡ slice_set proved node p → stuck' ≡ slice_set stuck node s → above_at shape node ≡ Some way →
     Above shape proved' stuck' known way.0 way.1
-above shape is_shape old_proved old_stuck proved stuck proved' stuck' known node way p s h within_p within_s wp ws up =
+above shape is_shape proved stuck proved' stuck' known fading node way p s h within_p within_s wp ws up =
     let elsewhere_p : (other : ℕ) → other ≢ node → marked proved' other ≡ marked proved other = λ other ne. ap (λ flags. marked flags other) wp ∙ get_or-set-other proved node other p false ne in
     let elsewhere_s : (other : ℕ) → other ≢ node → marked stuck' other ≡ marked stuck other = λ other ne. ap (λ flags. marked flags other) ws ∙ get_or-set-other stuck node other s false ne in
     let grows_p = written_grows proved proved' node p within_p wp h.proved_rises in
     let grows_s = written_grows stuck stuck' node s within_s ws h.stuck_rises in
     let rises = above-rises shape is_shape node way up in
     let apart : way.0 ≢ node = λ e. omega (arith, e, rises) in
-    let local = h.climbs.others way.0 apart in
+    let local = h.others way.0 apart in
     record {
       proved_rises = λ a. proved_by-grows (marked proved) (marked proved') grows_p (alternatives_at shape way.0) (sym local.proved_is ∙ sym (elsewhere_p way.0 apart) ∙ a);
       stuck_rises = λ a. stuck_by-grows (marked stuck) (marked stuck') grows_s (alternatives_at shape way.0) (sym local.stuck_is ∙ sym (elsewhere_s way.0 apart) ∙ a);
@@ -196,14 +184,36 @@ above shape is_shape old_proved old_stuck proved stuck proved' stuck' known node
           ∙ (h.knows_stuck n).next entry f;
     }
 
+-- the node that is written is decided, since its marks change
+pub decides : (shape : TreeShape) (proved stuck proved' stuck' : List Bool) (known : List (ℕ × ℕ)) (fading : Fading) (node : ℕ) (p s : Bool) → Climbing shape proved stuck known fading node p s →
+    node < length proved → node < length stuck → proved' ≡ slice_set proved node p → stuck' ≡ slice_set stuck node s →
+    (marked proved node ≡ p → marked stuck node ≡ s → ⊥) → DecidesOne proved stuck proved' stuck' node
+decides shape proved stuck proved' stuck' known fading node p s h within_p within_s wp ws changed =
+    let here_p = ap (λ flags. marked flags node) wp ∙ get_or-set-same proved node p false within_p in
+    let here_s = ap (λ flags. marked flags node) ws ∙ get_or-set-same stuck node s false within_s in
+    record {
+      proved_elsewhere = λ other ne. ap (λ flags. marked flags other) wp ∙ get_or-set-other proved node other p false ne;
+      stuck_elsewhere = λ other ne. ap (λ flags. marked flags other) ws ∙ get_or-set-other stuck node other s false ne;
+      proved_grows = λ e. here_p ∙ h.proved_rises e;
+      stuck_grows = λ e. here_s ∙ h.stuck_rises e;
+      decided = ap (λ b. b || marked stuck' node) here_p ∙ (ap (λ b. p || b) here_s ∙ one p s (marked proved node) (marked stuck node) changed h.proved_rises h.stuck_rises);
+    }
+  where
+    one : (p s a b : Bool) → (a ≡ p → b ≡ s → ⊥) → (a ≡ true → p ≡ true) → (b ≡ true → s ≡ true) → (p || s) ≡ true
+    one true s a b h f g = refl
+    one false true a b h f g = refl
+    one false false true b h f g = f refl
+    one false false false true h f g = g refl
+    one false false false false h f g = absurd (h refl refl)
+
 -- the climb goes on above
-pub climbs_on : (shape : TreeShape) (old_proved old_stuck proved stuck : List Bool) (known known' known'' : List (ℕ × ℕ)) (node alternative : ℕ) (p s : Bool) →
-    ClimbsTo shape old_proved old_stuck proved stuck node → Above shape proved stuck known node alternative →
+pub climbs_on : (shape : TreeShape) (proved stuck : List Bool) (known known' known'' : List (ℕ × ℕ)) (fading : Fading) (node alternative : ℕ) (p s : Bool) →
+    ((other : ℕ) → (other ≡ node → ⊥) → IsLocalAt shape proved stuck other) → Above shape proved stuck known node alternative →
     p ≡ proved_by (marked proved) (alternatives_at shape node) → s ≡ stuck_by (marked stuck) (alternatives_at shape node) →
     KnowsProved proved known' → ((n : ℕ) → passed_of known' n ≡ passed_of known n) → ((n : ℕ) → run_of known'' n ≡ run_of known' n) →
-    KnowsStuck shape stuck known'' node → ((n : ℕ) → (n ≡ node → ⊥) → passed_of known'' n ≡ passed_of known' n) → Climbing shape old_proved old_stuck proved stuck known'' node p s
-climbs_on shape old_proved old_stuck proved stuck known known' known'' node alternative p s climbs a vp vs knows passed runs here others = record {
-  climbs = climbs;
+    KnowsStuck shape stuck known'' node → ((n : ℕ) → (n ≡ node → ⊥) → passed_of known'' n ≡ passed_of known' n) → IsSpread shape proved stuck fading → Climbing shape proved stuck known'' fading node p s
+climbs_on shape proved stuck known known' known'' fading node alternative p s local a vp vs knows passed runs here others spread = record {
+  others = local;
   proved_is = vp;
   stuck_is = vs;
   proved_rises = λ e. vp ∙ a.proved_rises e;
@@ -213,6 +223,7 @@ climbs_on shape old_proved old_stuck proved stuck known known' known'' node alte
     | inl e ↦ subst (KnowsStuck shape stuck known'') (sym e) here
     | inr ne ↦ knows_passed shape stuck known'' n (passed_of known n) (others n ne ∙ passed n) (a.before n) (a.others n ne)
   ];
+  spread = spread;
 }
 
 pub moved_before : (shape : TreeShape) (stuck : List Bool) (known known' : List (ℕ × ℕ)) (node : ℕ) → passed_of known' node ≡ passed_of known node → EachEntry shape node (passed_of known node) (some_child (marked stuck)) true →

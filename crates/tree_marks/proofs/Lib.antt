@@ -1,5 +1,8 @@
 pub mod Entries
 mod Climbs
-mod Freshness
+mod Fallen
+mod ChildFlags
+mod Spreading
+mod Deciding
 mod Knowing
 pub mod Settling

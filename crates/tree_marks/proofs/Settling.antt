@@ -9,9 +9,6 @@ use Rattle.tree_runs.specs.Marks.{all_from, some_child, proved_by, stuck_by, ent
 use Rattle.tree_runs.proofs.Shapes.{IsShape-root, IsShape-grow, alternatives-others, old-child, new-child, nodes_count-grow}
 use Rattle.tree_runs.proofs.Marks.{alternatives-past, all_from-agree, any_from-agree, proved_by-agree, stuck_by-agree, is_proved-local, is_stuck-local, proved-unique, stuck-unique, relevant-unique}
 use Rattle.tree_runs.proofs.Progress.{is_relevant-local, root_relevant}
-use Rattle.tree_runs.proofs.Lists.{same_or_other}
-use Rattle.tree_marks.proofs.Climbs.{one_parent}
-use Rattle.tree_marks.proofs.Freshness.{IsApart}
 use Rattle.tree_marks.specs.TreeMarks.{TreeMarks, marked, unmarked, run_of, passed_of, KnowsProved, KnowsStuck, KnowsOthers, Settled, JustGrown, IsLocalAt, entry_decided, keeps, IsFresh, Begins}
 
 default_alone : {X : Type 0} (k n : ℕ) (d : X) → get_or (replicate k d) n d ≡ d
@@ -80,6 +77,13 @@ new_is_childless before node counts is_shape stands ungrown alternative place ch
     let number = born.number in
     alternatives-others before node counts is_shape stands ungrown child (λ e. omega (arith, e, number, stands)) ∙ alternatives-past before is_shape child (omega (arith, number))
 
+new_is_relevant : (before : TreeShape) (node : ℕ) (counts : List ℕ) (flags : List Bool) → IsShape before → node < nodes_count before → alternatives_at before node ≡ None → length flags ≡ nodes_count before →
+    (alternative place child : ℕ) → IsChild (grow before node counts) node alternative place child → unmarked flags child ≡ true
+new_is_relevant before node counts flags is_shape stands ungrown size alternative place child c =
+    let born = new-child before node counts is_shape stands ungrown alternative place child c in
+    let number = born.number in
+    get_or_past flags child true (omega (arith, number, size))
+
 pub begins : (shape : TreeShape) (node : ℕ) (marks : TreeMarks) (proved stuck relevant : List Bool) (i j k : ℕ) → JustGrown shape node marks →
     proved ≡ marks.proved ++ replicate i false → stuck ≡ marks.stuck ++ replicate j false → relevant ≡ marks.relevant ++ replicate k true → Begins shape proved stuck relevant node
 begins shape node marks proved stuck relevant i j k h ep es er =
@@ -91,6 +95,7 @@ begins shape node marks proved stuck relevant i j k h ep es er =
       local = local_elsewhere h.before node h.counts marks h.settled h.stands h.ungrown proved stuck relevant p s r;
       fresh = fresh_elsewhere h.before node h.counts marks h.settled h.stands h.ungrown proved stuck relevant p s r;
       childless = new_is_childless h.before node h.counts h.settled.is_shape h.stands h.ungrown;
+      news = λ alternative place child c. r child ∙ new_is_relevant h.before node h.counts marks.relevant h.settled.is_shape h.stands h.ungrown h.settled.relevant_size alternative place child c;
       root = r 0 ∙ h.settled.relevant_is 0 ∙ root_relevant h.before h.settled.is_shape;
     })
 
@@ -222,19 +227,3 @@ written_back flags rest n e = let within : n ≤ length flags = omega (arith, e)
 pub length-extended : {X : Type 0} (flags longer : List X) (n : ℕ) (d : X) → length flags ≤ n → longer ≡ flags ++ replicate (n - length flags) d → length longer ≡ n
 length-extended flags longer n d within e =
     ap length e ∙ length-append flags (replicate (n - length flags) d) ∙ ap (λ (k : ℕ). length flags + k) (length-replicate (n - length flags) d) ∙ (let z : length flags + (n - length flags) ≡ n = omega arith in z)
-
--- ---- a node that decides nothing
-
--- the children of just this node were marked
-pub one_refreshed : (shape : TreeShape) (proved stuck relevant relevant' : List Bool) (node : ℕ) → Begins shape proved stuck relevant node → IsFresh shape proved stuck relevant' node →
-    ((other : ℕ) → IsApart shape node other → unmarked relevant' other ≡ unmarked relevant other) → (other : ℕ) → IsFresh shape proved stuck relevant' other
-one_refreshed shape proved stuck relevant relevant' node h here others other = elim (same_or_other other node) [
-  | inl same ↦ subst (IsFresh shape proved stuck relevant') (sym same) here
-  | inr ne ↦ λ alternative place child c.
-      others child (λ i p d. ne (sym (one_parent shape h.is_shape node other i alternative p place child d c).0)) ∙ h.fresh other ne alternative place child c
-      ∙ ap (λ b. not (marked proved other || marked stuck other) && not (entry_decided proved stuck (entry_at (alternatives_at shape other) alternative)) && b)
-      (sym (others other (λ i p d. let clash : ◌≡◌ {A = Option (List (ℕ × ℕ))} None (Some c.all) = sym (h.childless i p other d) ∙ c.grown in cc)))
-]
-
-pub local_everywhere : (shape : TreeShape) (proved stuck relevant : List Bool) (node : ℕ) → Begins shape proved stuck relevant node → IsLocalAt shape proved stuck node → (other : ℕ) → IsLocalAt shape proved stuck other
-local_everywhere shape proved stuck relevant node h here other = elim (same_or_other other node) [ inl same ↦ subst (IsLocalAt shape proved stuck) (sym same) here | inr ne ↦ h.local other ne ]

@@ -1,1 +1,2 @@
 pub mod TreeMarks
+pub mod Fading

@@ -97,6 +97,7 @@ pub record Begins (shape : TreeShape) (proved stuck relevant : List Bool) (node 
   pub local : (other : ℕ) → (other ≡ node → ⊥) → IsLocalAt shape proved stuck other
   pub fresh : (other : ℕ) → (other ≡ node → ⊥) → IsFresh shape proved stuck relevant other
   pub childless : (alternative place child : ℕ) → IsChild shape node alternative place child → alternatives_at shape child ≡ None
+  pub news : (alternative place child : ℕ) → IsChild shape node alternative place child → unmarked relevant child ≡ true
   pub root : unmarked relevant 0 ≡ true
 
 -- What is known when settling begins: all but of the node's alternatives, and the node is undecided.

@@ -32,7 +32,7 @@ fn put_passed(known: &mut [(u32, u32)], node: u32, passed: u32)
 }
 
 // How many nodes from one on are known to be proved.
-fn run_at(known: &[(u32, u32)], node: u32) -> u32
+pub fn run_at(known: &[(u32, u32)], node: u32) -> u32
     requires { node < length known.now }
     ensures { result ≡ run_of known.now node }
 {
@@ -50,7 +50,7 @@ fn passed_at(known: &[(u32, u32)], node: u32) -> u32
 }
 
 // How many of these children are proved before the first that isn't, where this many are known to be.
-fn proved_run(proved: &[bool], first: u32, count: u32, known: u32) -> u32
+pub fn proved_run(proved: &[bool], first: u32, count: u32, known: u32) -> u32
     requires stand { first + count ≤ length proved.now }
     requires known { all_from (marked proved.now) first known ≡ true }
     ensures run { all_from (marked proved.now) first result ≡ true }

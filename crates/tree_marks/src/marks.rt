@@ -1,14 +1,15 @@
 //! Marks.
 
-ghost use Rattle.std.specs.Prelude.{◌≡◌, ◌+◌, ◌-◌, ◌<◌, ◌≤◌, ◌++◌, length, replicate, vec_capacity, IfOk, OnOk};
+ghost use Rattle.std.specs.Prelude.{◌≡◌, ◌+◌, ◌-◌, ◌<◌, ◌≤◌, ◌++◌, [], length, replicate, vec_capacity, IfOk, OnOk};
 ghost use Rattle.tree_runs.specs.Shapes.{root_shape, nodes_count};
 ghost use Rattle.tree_shape.specs.Room.{HasAlternative};
 ghost use Rattle.tree_marks.specs.TreeMarks.{marked, unmarked, Settled, JustGrown, Begins, KnowsOthers, is_alternative_proved};
 
-use crate::climb::{climb, is_settled_at};
+use crate::climb::climb;
 use crate::known::begin_passing;
-use crate::refresh::{refresh_from, refresh_node};
+use crate::relevance::Relevance;
 use crate::scans::are_all_proved;
+use crate::spread::{drop_new, work_off};
 use basics::NoMemory;
 use basics::limits::LIST_LIMIT;
 use std::alloc::Global;
@@ -21,31 +22,32 @@ use tree_shape::Shape;
 pub struct Marks {
     proved: Vec<bool>,
     stuck: Vec<bool>,
-    relevant: Vec<bool>,
+    relevance: Relevance,
     known: Vec<(u32, u32)>,
     spare: usize,
 }
 
 impl Model for Marks {
-    ghost use Rattle.std.specs.Prelude.{length, vec_capacity};
+    ghost use Rattle.std.specs.Prelude.{◌≡◌, ◌≤◌, [], length, vec_capacity};
     ghost use Rattle.tree_shape.specs.Room.{HasRoom};
     ghost use Rattle.tree_marks.specs.TreeMarks.{MarksRoom};
 
     ghost Value = { MarksRoom };
 
     ghost view = { λ m. record {
-      marks = record { proved = m.proved.items; stuck = m.stuck.items; relevant = m.relevant.items; known = m.known.items };
+      marks = record { proved = m.proved.items; stuck = m.stuck.items; relevant = m.relevance.fading.flags; known = m.known.items };
       spare = m.spare;
     } };
 
     ghost invariant = { λ m. HasRoom (length m.proved.items) (vec_capacity m.proved) m.spare
         × HasRoom (length m.stuck.items) (vec_capacity m.stuck) m.spare
-        × HasRoom (length m.relevant.items) (vec_capacity m.relevant) m.spare
-        × HasRoom (length m.known.items) (vec_capacity m.known) m.spare };
+        × HasRoom (length m.known.items) (vec_capacity m.known) m.spare
+        × (m.spare ≤ m.relevance.spare)
+        × (m.relevance.fading.pending ≡ []) };
 }
 
 // Puts flags last until there are this many, where there is room for them.
-fn extend(flags: &mut Vec<bool>, len: usize, flag: bool)
+pub fn extend(flags: &mut Vec<bool>, len: usize, flag: bool)
     requires longer { length flags.old.items ≤ len }
     requires room { len ≤ vec_capacity flags.old }
     ensures items { flags.new.items ≡ flags.old.items ++ replicate (len - length flags.old.items) flag }
@@ -80,27 +82,27 @@ fn extend_known(known: &mut Vec<(u32, u32)>, len: usize)
 fn spread(
     proved: &mut [bool],
     stuck: &mut [bool],
-    relevant: &mut [bool],
     known: &mut [(u32, u32)],
+    relevance: &mut Relevance,
     shape: &Shape,
     node: u32,
 )
-    requires begins { Begins shape.now.shape proved.old stuck.old relevant.old node }
+    requires begins { Begins shape.now.shape proved.old stuck.old relevance.old.fading.flags node }
     requires proved_size { length proved.old ≡ nodes_count shape.now.shape }
     requires stuck_size { length stuck.old ≡ nodes_count shape.now.shape }
-    requires relevant_size { length relevant.old ≡ nodes_count shape.now.shape }
+    requires relevance_size { length relevance.old.fading.flags ≡ nodes_count shape.now.shape }
+    requires idle { relevance.old.fading.pending ≡ [] }
     requires stands { node < nodes_count shape.now.shape }
     requires known_size { length known.old ≡ nodes_count shape.now.shape }
     requires knows { KnowsOthers shape.now.shape proved.old stuck.old known.old node }
-    ensures { Settled shape.now.shape (record { proved = proved.new; stuck = stuck.new; relevant = relevant.new; known = known.new }) }
+    ensures settled { Settled shape.now.shape (record { proved = proved.new; stuck = stuck.new; relevant = relevance.new.fading.flags; known = known.new }) }
+    ensures idle { relevance.new.fading.pending ≡ [] }
+    ensures spare { relevance.new.spare ≡ relevance.old.spare }
 {
     begin_passing(stuck, known, shape, node);
-    if is_settled_at(proved, stuck, shape, node) {
-        refresh_node(proved, stuck, relevant, shape, node);
-    } else {
-        let from = climb(proved, stuck, known, shape, node);
-        refresh_from(proved, stuck, relevant, shape, from);
-    }
+    drop_new(relevance, shape, node);
+    climb(proved, stuck, known, relevance, shape, node);
+    work_off(relevance, shape);
 }
 
 impl Marks {
@@ -112,14 +114,13 @@ impl Marks {
         proved.push(false)?;
         let mut stuck = Vec::new(alloc);
         stuck.push(false)?;
-        let mut relevant = Vec::new(alloc);
-        relevant.push(true)?;
+        let relevance = Relevance::new(alloc)?;
         let mut known = Vec::new(alloc);
         known.push((0, 0))?;
         Ok(Marks {
             proved,
             stuck,
-            relevant,
+            relevance,
             known,
             spare: 0,
         })
@@ -137,20 +138,20 @@ impl Marks {
         let most = LIST_LIMIT as usize;
         if n > most - self.proved.len()
             || n > most - self.stuck.len()
-            || n > most - self.relevant.len()
             || n > most - self.known.len()
         {
             return Err(NoMemory);
         }
         self.proved.reserve(n)?;
         self.stuck.reserve(n)?;
-        self.relevant.reserve(n)?;
+        self.relevance.reserve(n)?;
         self.known.reserve(n)?;
         self.spare = n;
         Ok(())
     }
 
-    /// Makes the marks right again after alternatives were grown below a node. There is room for their children. It takes no memory.
+    /// Makes the marks right again after alternatives were grown below a node. There is room for their children. It takes no memory. Over
+    /// all calls each node is marked irrelevant once.
     pub fn settle(&mut self, shape: &Shape, node: u32)
         requires grown { JustGrown shape.now.shape node self.old.marks }
         requires room { nodes_count shape.now.shape ≤ length self.old.marks.proved + self.old.spare }
@@ -162,13 +163,13 @@ impl Marks {
         self.spare -= len - self.proved.len();
         extend(&mut self.proved, len, false);
         extend(&mut self.stuck, len, false);
-        extend(&mut self.relevant, len, true);
         extend_known(&mut self.known, len);
+        self.relevance.grow_to(len);
         spread(
             &mut self.proved,
             &mut self.stuck,
-            &mut self.relevant,
             &mut self.known,
+            &mut self.relevance,
             shape,
             node,
         );
@@ -205,6 +206,6 @@ impl Marks {
         requires { node < length self.now.marks.relevant }
         ensures { result ≡ unmarked self.now.marks.relevant node }
     {
-        self.relevant[node as usize]
+        self.relevance.is_up(node)
     }
 }

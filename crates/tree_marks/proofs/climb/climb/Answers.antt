@@ -1,17 +1,25 @@
--- A step writes the marks of one node, so only the node above may fail to be local, and what is known there is brought up to date.
-use Rattle.std.proofs.Common.{sym, arith}
+-- A step writes the marks of one node, so only the node above may fail to be local; irrelevance is spread from it, and what is known above is brought up to date.
+use Rattle.std.proofs.Common.{◌∙◌, refl, sym, arith}
 use Rattle.tree_runs.proofs.Marks.{above-rises}
-use Rattle.tree_marks.proofs.Climbs.{Climbed, begins, climbed, to_parent, at_root, at_root_low}
-use Rattle.tree_marks.proofs.Knowing.{above, climbs_on, moved_before, moved_next, has_above, written_knows_proved, root_knows_stuck}
+use Rattle.tree_marks.proofs.Climbs.{written, other_parent, root_is_free}
+use Rattle.tree_marks.proofs.Knowing.{above, decides, climbs_on, moved_before, moved_next, has_above, written_knows_proved, root_knows_stuck}
+use Rattle.tree_marks.proofs.Spreading.{both}
 use Rattle.tree_marks.proofs.climb.climb.Goals as goal
 
-last_step : (c : goal.In-None) → Climbed c.args.shape.now.shape c.up.proved c.up.stuck c.put_flag.new.flags c.put_flag-in-up.new.flags c.up.at
-last_step c = climbed c.args.shape.now.shape c.requires.shape c.up.at c.up.proved c.up.stuck _ _ c.up.is_proved c.up.is_stuck
-    (omega arith) (omega arith) c.put_flag.ensures c.put_flag-in-up.ensures c.up.invariant.climbing.proved_is c.up.invariant.climbing.stuck_is
+pub drop_around-requires : goal.drop_around-requires
+drop_around-requires c = record {
+  shape = c.requires.shape;
+  proved_size = omega arith;
+  stuck_size = omega arith;
+  known_size = omega arith;
+  size = c.up.invariant.size ∙ c.requires.relevance_size;
+  stands = c.up.invariant.stands;
+  knows = written_knows_proved c.up.proved _ c.up.known c.up.at c.up.is_proved (omega arith) c.put_flag.ensures c.up.invariant.climbing.proved_rises c.up.invariant.climbing.knows_proved;
+}
 
 pub is_proved_above-proved_above-requires : goal.is_proved_above-proved_above-requires
 is_proved_above-proved_above-requires c =
-    let a = above c.args.shape.now.shape c.requires.shape c.args.proved.now c.args.stuck.now c.up.proved c.up.stuck _ _ c.up.known c.up.at _ c.up.is_proved c.up.is_stuck c.up.invariant.climbing
+    let a = above c.args.shape.now.shape c.requires.shape c.up.proved c.up.stuck _ _ c.up.known c.up.relevance.fading c.up.at _ c.up.is_proved c.up.is_stuck c.up.invariant.climbing
     (omega arith) (omega arith) c.put_flag.ensures c.put_flag-in-up.ensures (sym c.in-Some.ensures) in
     let rises = above-rises c.args.shape.now.shape c.requires.shape c.up.at _ (sym c.in-Some.ensures) in
     record {
@@ -27,7 +35,7 @@ is_proved_above-proved_above-requires c =
 
 pub is_stuck_above-stuck_above-requires : goal.is_stuck_above-stuck_above-requires
 is_stuck_above-stuck_above-requires c =
-    let a = above c.args.shape.now.shape c.requires.shape c.args.proved.now c.args.stuck.now c.up.proved c.up.stuck _ _ c.up.known c.up.at _ c.up.is_proved c.up.is_stuck c.up.invariant.climbing
+    let a = above c.args.shape.now.shape c.requires.shape c.up.proved c.up.stuck _ _ c.up.known c.up.relevance.fading c.up.at _ c.up.is_proved c.up.is_stuck c.up.invariant.climbing
     (omega arith) (omega arith) c.put_flag.ensures c.put_flag-in-up.ensures (sym c.in-Some.ensures) in
     let rises = above-rises c.args.shape.now.shape c.requires.shape c.up.at _ (sym c.in-Some.ensures) in
     record {
@@ -42,39 +50,48 @@ is_stuck_above-stuck_above-requires c =
 pub up-init : goal.up-init
 up-init c = record {
   stands = c.requires.stands;
-  upwards = omega arith;
+  size = refl;
+  spare = refl;
   climbing = record {
-    climbs = begins c.args.shape.now.shape c.args.proved.now c.args.stuck.now c.args.node c.requires.others;
+    others = c.requires.others;
     proved_is = c.has_proved_alternative-is_proved.ensures;
     stuck_is = c.has_only_stuck_alternatives-is_stuck.ensures;
     proved_rises = λ e. absurd (let unproved = c.requires.unproved in cc);
     stuck_rises = λ e. absurd (let unstuck = c.requires.unstuck in cc);
     knows_proved = c.requires.knows_proved;
     knows_stuck = c.requires.knows_stuck;
+    spread = c.requires.spread;
   };
 }
 
 pub up-preserved : goal.up-preserved
 up-preserved c =
-    let a = above c.args.shape.now.shape c.requires.shape c.args.proved.now c.args.stuck.now c.up.proved c.up.stuck _ _ c.up.known c.up.at _ c.up.is_proved c.up.is_stuck c.up.invariant.climbing
+    let a = above c.args.shape.now.shape c.requires.shape c.up.proved c.up.stuck _ _ c.up.known c.up.relevance.fading c.up.at _ c.up.is_proved c.up.is_stuck c.up.invariant.climbing
     (omega arith) (omega arith) c.put_flag.ensures c.put_flag-in-up.ensures (sym c.in-Some.ensures) in
-    let step = climbed c.args.shape.now.shape c.requires.shape c.up.at c.up.proved c.up.stuck _ _ c.up.is_proved c.up.is_stuck (omega arith) (omega arith) c.put_flag.ensures c.put_flag-in-up.ensures
-    c.up.invariant.climbing.proved_is c.up.invariant.climbing.stuck_is in
+    let d = decides c.args.shape.now.shape c.up.proved c.up.stuck _ _ c.up.known c.up.relevance.fading c.up.at c.up.is_proved c.up.is_stuck c.up.invariant.climbing
+    (omega arith) (omega arith) c.put_flag.ensures c.put_flag-in-up.ensures (λ a b. both _ (c.has_marks.ensures.1 (a, b)) c.if-has_marks.false) in
     let rises = above-rises c.args.shape.now.shape c.requires.shape c.up.at _ (sym c.in-Some.ensures) in
     record {
       stands = omega (arith, rises);
-      upwards = omega (arith, rises);
-      climbing = climbs_on c.args.shape.now.shape c.args.proved.now c.args.stuck.now _ _ c.up.known _ _ c.in-Some.parent c.in-Some.alternative _ _
-          (to_parent c.args.shape.now.shape c.requires.shape c.up.proved c.up.stuck c.args.proved.now c.args.stuck.now _ _ c.up.at _ c.up.invariant.climbing.climbs step (sym c.in-Some.ensures))
+      size = c.drop_around.ensures.size ∙ c.up.invariant.size;
+      spare = c.drop_around.ensures.spare ∙ c.up.invariant.spare;
+      climbing = climbs_on c.args.shape.now.shape _ _ c.up.known _ _ _ c.in-Some.parent c.in-Some.alternative _ _
+          (λ other ne. written c.args.shape.now.shape c.requires.shape c.up.at c.up.proved c.up.stuck _ _ c.up.is_proved c.up.is_stuck (omega arith) (omega arith) c.put_flag.ensures c.put_flag-in-up.ensures
+          c.up.invariant.climbing.proved_is c.up.invariant.climbing.stuck_is c.up.invariant.climbing.others other (other_parent c.args.shape.now.shape c.requires.shape c.up.at _ (sym c.in-Some.ensures) other ne))
           a c.is_proved_above-proved_above.ensures.is c.is_stuck_above-stuck_above.ensures.is c.is_proved_above-proved_above.ensures.knows c.is_proved_above-proved_above.ensures.passed
-          c.is_stuck_above-stuck_above.ensures.run c.is_stuck_above-stuck_above.ensures.knows c.is_stuck_above-stuck_above.ensures.others;
+          c.is_stuck_above-stuck_above.ensures.run c.is_stuck_above-stuck_above.ensures.knows c.is_stuck_above-stuck_above.ensures.others (c.drop_around.ensures.spread c.up.proved c.up.stuck d c.up.invariant.climbing.spread);
     }
 
 pub returns-in-None-clause-local : goal.returns-in-None-clause-local
-returns-in-None-clause-local c = at_root c.args.shape.now.shape c.requires.shape c.up.proved c.up.stuck c.args.proved.now c.args.stuck.now _ _ c.up.at c.up.invariant.climbing.climbs (last_step c) (sym c.in-None.ensures)
+returns-in-None-clause-local c = λ other.
+    written c.args.shape.now.shape c.requires.shape c.up.at c.up.proved c.up.stuck _ _ c.up.is_proved c.up.is_stuck (omega arith) (omega arith) c.put_flag.ensures c.put_flag-in-up.ensures
+    c.up.invariant.climbing.proved_is c.up.invariant.climbing.stuck_is c.up.invariant.climbing.others other (root_is_free c.args.shape.now.shape c.requires.shape c.up.at (sym c.in-None.ensures) other)
 
-pub returns-in-None-clause-low : goal.returns-in-None-clause-low
-returns-in-None-clause-low c = at_root_low c.args.shape.now.shape c.requires.shape c.up.proved c.up.stuck c.args.proved.now c.args.stuck.now _ _ c.up.at c.up.invariant.climbing.climbs (last_step c) (sym c.in-None.ensures)
+pub returns-in-None-clause-spread : goal.returns-in-None-clause-spread
+returns-in-None-clause-spread c =
+    c.drop_around.ensures.spread c.up.proved c.up.stuck
+    (decides c.args.shape.now.shape c.up.proved c.up.stuck _ _ c.up.known c.up.relevance.fading c.up.at c.up.is_proved c.up.is_stuck c.up.invariant.climbing (omega arith) (omega arith) c.put_flag.ensures c.put_flag-in-up.ensures (λ a b. both _ (c.has_marks.ensures.1 (a, b)) c.if-has_marks.false))
+    c.up.invariant.climbing.spread
 
 pub returns-in-None-clause-knows_proved : goal.returns-in-None-clause-knows_proved
 returns-in-None-clause-knows_proved c = written_knows_proved c.up.proved _ c.up.known c.up.at c.up.is_proved (omega arith) c.put_flag.ensures c.up.invariant.climbing.proved_rises c.up.invariant.climbing.knows_proved
