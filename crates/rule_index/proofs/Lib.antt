@@ -1,0 +1,5 @@
+mod Demands
+mod Nodes
+mod Levels
+mod Trees
+mod Picking

@@ -1,0 +1,25 @@
+use Rattle.rule_index.specs.Trees.{HasPlace, Reaches}
+use Rattle.rule_index.proofs.Nodes.{on_ok, nodes_stay, nodes_then, way_begins, way_goes_on, way_ends}
+use Rattle.rule_index.proofs.node.insert.Goals as goal
+
+pub loop-part-init : goal.loop-part-init
+loop-part-init c = record { grows = nodes_stay c.args.nodes.now.items; on_the_way = way_begins c.args.nodes.now.items c.args.root c.args.parts.now c.args.place }
+
+pub returns-in_err-number-clause-grows : goal.returns-in_err-number-clause-grows
+returns-in_err-number-clause-grows c = nodes_then c.args.nodes.now.items c.loop-part.nodes.items c.below.new.nodes.items c.loop-part.invariant.grows c.below.ensures.grows
+
+pub loop-part-preserved : goal.loop-part-preserved
+loop-part-preserved c = record {
+  grows = nodes_then c.args.nodes.now.items c.loop-part.nodes.items c.below.new.nodes.items c.loop-part.invariant.grows c.below.ensures.grows;
+  on_the_way = way_goes_on c.loop-part.nodes.items c.below.new.nodes.items c.args.root c.args.parts.now c.args.place c.loop-part.part-index c.loop-part.number c.in_ok-number.number
+      c.loop-part.invariant.on_the_way c.loop-part-test.true c.below.ensures.grows c.in_ok-number.ensures.ok;
+}
+
+pub returns-clause-grows : goal.returns-clause-grows
+returns-clause-grows c = nodes_then c.args.nodes.now.items c.loop-part.nodes.items c.put.new.nodes.items c.loop-part.invariant.grows c.put.ensures.grows
+
+pub returns-clause-ok : goal.returns-clause-ok
+returns-clause-ok c =
+    on_ok c.put.result (HasPlace c.put.new.nodes.items c.loop-part.number c.args.place) (Reaches c.put.new.nodes.items c.args.place c.args.root c.args.parts.now)
+    (way_ends c.loop-part.nodes.items c.put.new.nodes.items c.args.root c.args.parts.now c.args.place c.loop-part.part-index c.loop-part.number c.loop-part.invariant.on_the_way c.loop-part-test.false c.put.ensures.grows)
+    c.put.ensures.ok
