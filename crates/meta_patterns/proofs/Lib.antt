@@ -1,2 +1,5 @@
 pub mod Readings
 pub mod Mentioned
+pub mod OwnVariables
+pub mod Tables
+pub mod UnderBinders

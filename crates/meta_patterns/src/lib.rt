@@ -2,8 +2,11 @@
 //! definitions in `unification`. Proved: each call answers what its definition says.
 #![tactic(auto)]
 
+pub mod covering;
 pub mod occurrence;
+pub mod pattern;
 pub mod reading;
 
 pub use occurrence::{occurs, occurs_among, occurs_plainly};
-pub use reading::{reads, variables_of};
+pub use pattern::{Pattern, pattern_of};
+pub use reading::{are_own, reads, variables_of};

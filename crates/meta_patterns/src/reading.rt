@@ -48,9 +48,9 @@ fn from_outside(is_spine: bool, count: u32, number: u32) -> Option<u32>
     }
 }
 
-// Whether arguments read as the variables of so many binders, the oldest first.
+/// Whether arguments read as the variables of so many binders, the oldest first.
 #[cycle(reads)]
-fn are_own(count: u32, args: &Terms) -> Result<bool, NoMemory>
+pub fn are_own(count: u32, args: &Terms) -> Result<bool, NoMemory>
     ensures { IfOk result (λ own. own ≡ are_own count args.now) }
 {
     let items = args.as_slice();
