@@ -3,3 +3,4 @@ pub mod Mentioned
 pub mod OwnVariables
 pub mod Tables
 pub mod UnderBinders
+pub mod Placings

@@ -15,7 +15,7 @@ not_mentioned g t none = false_from_ne_true (occurs_in (metavariable g) t) (λ e
 pub not_mentioned_among : (g : ℕ) (ts : Spine) → HasNoMetavariable (InSpine ts) → occurs_in_spine (metavariable g) ts ≡ false
 not_mentioned_among g ts none = false_from_ne_true (occurs_in_spine (metavariable g) ts) (λ e. none g (OccursInSpine-true (metavariable g) ts e))
 
-either_true : (a b : Bool) → (a || b) ≡ false → (a ≡ false) × (b ≡ false)
+pub either_true : (a b : Bool) → (a || b) ≡ false → (a ≡ false) × (b ≡ false)
 either_true true b e = absurd cc
 either_true false b e = (refl, e)
 

@@ -57,7 +57,7 @@ own_outside (suc count) n past =
 pub own_below : (count : ℕ) → HasBelow (own_numbers count) count
 own_below count n less = sym (is_some-placed_number (own_numbers count) n) ∙ ap is_some (own_inside count n less)
 
-own_not : (count n : ℕ) → count ≤ n → has_number (own_numbers count) n ≡ false
+pub own_not : (count n : ℕ) → count ≤ n → has_number (own_numbers count) n ≡ false
 own_not count n past = sym (is_some-placed_number (own_numbers count) n) ∙ ap is_some (own_outside count n past)
 
 pub own_different : (count : ℕ) → are_different (own_numbers count) ≡ true

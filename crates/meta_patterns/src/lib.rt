@@ -5,6 +5,7 @@
 pub mod covering;
 pub mod occurrence;
 pub mod pattern;
+pub mod placing;
 pub mod reading;
 
 pub use occurrence::{occurs, occurs_among, occurs_plainly};
