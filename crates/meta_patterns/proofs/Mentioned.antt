@@ -35,3 +35,6 @@ mutual
 
 pub not_plain : (g : ℕ) (t : LfTerm) → HasNoMetavariable (InTerm t) → occurs_plainly g t ≡ false
 not_plain g t none = plainly_none g t (not_mentioned g t none)
+
+pub not_plain_among : (g : ℕ) (ts : Spine) → HasNoMetavariable (InSpine ts) → occurs_plainly_in_spine g ts ≡ false
+not_plain_among g ts none = plainly_none_among g ts (not_mentioned_among g ts none)

@@ -77,6 +77,9 @@ pub fn occurs_plainly(goal: u32, term: &Term) -> Result<bool, NoMemory>
 fn occurs_plainly_among(goal: u32, terms: &Terms) -> Result<bool, NoMemory>
     ensures { IfOk result (λ occurs. occurs ≡ occurs_plainly_in_spine goal terms.now) }
 {
+    if !terms.has_metas() {
+        return Ok(false);
+    }
     let items = terms.as_slice();
     for i in 0..items.len() {
         let found = occurs_plainly(goal, &items[i])?;

@@ -16,7 +16,8 @@ pub struct Pattern {
     variables: Variables,
 }
 
-// All variables of a context in order are by far the most frequent, and take no memory. Beside others stands, by the number of each, that of the entry at its place.
+// All variables of a context in order are by far the most frequent, and take no memory. Beside others stands a table: by the number of each, that of the entry at its
+// place.
 #[derive(Drop)]
 enum Variables {
     Own(u32),
@@ -46,7 +47,7 @@ impl Pattern {
         }
     }
 
-    /// Whether they are all variables of a context in order. It takes one step.
+    /// Whether they are known to be all variables of a context in order. It takes one step.
     pub fn is_own(&self) -> bool
         ensures { IsTrue result → self.now ≡ own_numbers (length self.now) }
     {
