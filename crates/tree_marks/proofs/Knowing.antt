@@ -1,5 +1,5 @@
 -- What is known of children and alternatives, when marks are written at one node.
-use Rattle.std.proofs.Common.{◌≡◌, ◌≢◌, inl, inr, ℕ, zero, suc, ◌<◌, ◌≤◌, Bool, true, false, ◌||◌, List, [], ◌∷◌, length, Option, Some, None, refl, sym, ap, subst, ◌∙◌, arith}
+use Rattle.std.proofs.Common.{◌≡◌, ◌≢◌, inl, inr, ℕ, zero, suc, ◌+◌, ◌<◌, ◌≤◌, Bool, true, false, ◌||◌, List, [], ◌∷◌, length, Option, Some, None, refl, sym, ap, subst, ◌∙◌, arith}
 use Rattle.std.specs.Prelude.{slice_get, slice_set}
 use Rattle.std.specs.Option.{option_map, option_flatten}
 use Rattle.std.specs.List.{list_any, list_all}
@@ -8,7 +8,7 @@ use Rattle.std.proofs.lemmas.Option.{slice_get_cases, slice_get_within}
 use Rattle.tree_runs.specs.Shapes.{TreeShape, nodes_count, above_at, alternatives_at, IsChild, IsShape}
 use Rattle.tree_runs.specs.Marks.{all_from, all_children, some_child, proved_by, stuck_by, entry_at}
 use Rattle.tree_runs.proofs.Lists.{same_or_other}
-use Rattle.tree_runs.proofs.Marks.{all_from-weaker, any_from-weaker, above-rises}
+use Rattle.tree_runs.proofs.Marks.{any_from-agree, all_from-weaker, any_from-weaker, above-rises}
 use Rattle.tree_marks.specs.TreeMarks.{marked, IsLocalAt, run_of, passed_of, EachEntry, NoneStuck, KnowsProved, KnowsStuck}
 use Rattle.tree_shape.specs.Room.{HasAlternative}
 use Rattle.tree_marks.specs.Fading.{Fading, IsSpread, DecidesOne}
@@ -150,23 +150,33 @@ pub record Climbing (shape : TreeShape) (proved stuck : List Bool) (known : List
   pub spread : IsSpread shape proved stuck fading
 
 -- what holds above a node that was just marked
-pub record Above (shape : TreeShape) (proved stuck : List Bool) (known : List (ℕ × ℕ)) (node alternative : ℕ) : Type 0 where
+pub record Above (shape : TreeShape) (proved stuck : List Bool) (known : List (ℕ × ℕ)) (child node alternative : ℕ) : Type 0 where
   pub proved_rises : marked proved node ≡ true → proved_by (marked proved) (alternatives_at shape node) ≡ true
   pub stuck_rises : marked stuck node ≡ true → stuck_by (marked stuck) (alternatives_at shape node) ≡ true
   pub unproved : marked proved node ≡ false → (other : ℕ) (entry : ℕ × ℕ) → (other ≡ alternative → ⊥) → entry_at (alternatives_at shape node) other ≡ Some entry → all_children (marked proved) entry ≡ false
   pub knows_proved : KnowsProved proved known
   pub before : (n : ℕ) → EachEntry shape n (passed_of known n) (some_child (marked stuck)) true
   pub next : (alternative ≡ passed_of known node → ⊥) → NoneStuck shape stuck node (passed_of known node)
+  pub unstuck : marked stuck child ≡ false → NoneStuck shape stuck node (passed_of known node)
   pub others : (n : ℕ) → (n ≡ node → ⊥) → NoneStuck shape stuck n (passed_of known n)
+
+-- what grows and is false was false
+stays_false : (b : Bool) {c : Bool} → (b ≡ true → c ≡ true) → c ≡ false → b ≡ false
+stays_false false h e = refl
+stays_false true h e = absurd (let t = h refl in let clash : true ≡ false = sym t ∙ e in cc)
 
 pub above : (shape : TreeShape) → IsShape shape → (proved stuck proved' stuck' : List Bool) (known : List (ℕ × ℕ)) (fading : Fading) (node : ℕ) (way : ℕ × ℕ × ℕ) (p s : Bool) →
     Climbing shape proved stuck known fading node p s → node < length proved → node < length stuck → proved' ≡ slice_set proved node p → stuck' ≡ slice_set stuck node s → above_at shape node ≡ Some way →
-    Above shape proved' stuck' known way.0 way.1
+    Above shape proved' stuck' known node way.0 way.1
 above shape is_shape proved stuck proved' stuck' known fading node way p s h within_p within_s wp ws up =
     let elsewhere_p : (other : ℕ) → other ≢ node → marked proved' other ≡ marked proved other = λ other ne. ap (λ flags. marked flags other) wp ∙ get_or-set-other proved node other p false ne in
     let elsewhere_s : (other : ℕ) → other ≢ node → marked stuck' other ≡ marked stuck other = λ other ne. ap (λ flags. marked flags other) ws ∙ get_or-set-other stuck node other s false ne in
     let grows_p = written_grows proved proved' node p within_p wp h.proved_rises in
     let grows_s = written_grows stuck stuck' node s within_s ws h.stuck_rises in
+    let same_stuck : marked stuck' node ≡ false → (n : ℕ) → marked stuck' n ≡ marked stuck n = λ a n. elim (same_or_other n node) [
+      | inl same ↦ ap (marked stuck') same ∙ (a ∙ (sym (stays_false (marked stuck node) (λ e. grows_s node e) a) ∙ ap (marked stuck) (sym same)))
+      | inr ne ↦ elsewhere_s n ne
+    ] in
     let rises = above-rises shape is_shape node way up in
     let apart : way.0 ≢ node = λ e. omega (arith, e, rises) in
     let local = h.others way.0 apart in
@@ -180,6 +190,7 @@ above shape is_shape proved stuck proved' stuck' known fading node way p s h wit
       before = λ n alternative entry small f. any_from-weaker (marked stuck) (marked stuck') grows_s entry.0 entry.1 ((h.knows_stuck n).before alternative entry small f);
       next = λ ne entry f. some_kept_at shape node stuck stuck' elsewhere_s way.0 (passed_of known way.0) entry (other_alternative shape is_shape node way up (passed_of known way.0) (λ e. ne (sym e))) (alternatives_at shape way.0) refl f
           ∙ (h.knows_stuck way.0).next entry f;
+      unstuck = λ a entry f. any_from-agree (marked stuck') (marked stuck) entry.0 entry.1 (λ place within. same_stuck a (entry.0 + place)) ∙ (h.knows_stuck way.0).next entry f;
       others = λ n ne entry f. some_kept_at shape node stuck stuck' elsewhere_s n (passed_of known n) entry (other_parent shape is_shape node way up n ne (passed_of known n)) (alternatives_at shape n) refl f
           ∙ (h.knows_stuck n).next entry f;
     }
@@ -207,12 +218,12 @@ decides shape proved stuck proved' stuck' known fading node p s h within_p withi
     one false false false false h f g = absurd (h refl refl)
 
 -- the climb goes on above
-pub climbs_on : (shape : TreeShape) (proved stuck : List Bool) (known known' known'' : List (ℕ × ℕ)) (fading : Fading) (node alternative : ℕ) (p s : Bool) →
-    ((other : ℕ) → (other ≡ node → ⊥) → IsLocalAt shape proved stuck other) → Above shape proved stuck known node alternative →
+pub climbs_on : (shape : TreeShape) (proved stuck : List Bool) (known known' known'' : List (ℕ × ℕ)) (fading : Fading) (child node alternative : ℕ) (p s : Bool) →
+    ((other : ℕ) → (other ≡ node → ⊥) → IsLocalAt shape proved stuck other) → Above shape proved stuck known child node alternative →
     p ≡ proved_by (marked proved) (alternatives_at shape node) → s ≡ stuck_by (marked stuck) (alternatives_at shape node) →
     KnowsProved proved known' → ((n : ℕ) → passed_of known' n ≡ passed_of known n) → ((n : ℕ) → run_of known'' n ≡ run_of known' n) →
     KnowsStuck shape stuck known'' node → ((n : ℕ) → (n ≡ node → ⊥) → passed_of known'' n ≡ passed_of known' n) → IsSpread shape proved stuck fading → Climbing shape proved stuck known'' fading node p s
-climbs_on shape proved stuck known known' known'' fading node alternative p s local a vp vs knows passed runs here others spread = record {
+climbs_on shape proved stuck known known' known'' fading child node alternative p s local a vp vs knows passed runs here others spread = record {
   others = local;
   proved_is = vp;
   stuck_is = vs;
@@ -229,6 +240,10 @@ climbs_on shape proved stuck known known' known'' fading node alternative p s lo
 pub moved_before : (shape : TreeShape) (stuck : List Bool) (known known' : List (ℕ × ℕ)) (node : ℕ) → passed_of known' node ≡ passed_of known node → EachEntry shape node (passed_of known node) (some_child (marked stuck)) true →
     EachEntry shape node (passed_of known' node) (some_child (marked stuck)) true
 moved_before shape stuck known known' node e h = subst (λ (p : ℕ). EachEntry shape node p (some_child (marked stuck)) true) (sym e) h
+
+pub moved_unstuck : (shape : TreeShape) (stuck : List Bool) (known known' : List (ℕ × ℕ)) (child node : ℕ) → passed_of known' node ≡ passed_of known node →
+    (marked stuck child ≡ false → NoneStuck shape stuck node (passed_of known node)) → marked stuck child ≡ false → NoneStuck shape stuck node (passed_of known' node)
+moved_unstuck shape stuck known known' child node e h a = subst (NoneStuck shape stuck node) (sym e) (h a)
 
 pub moved_next : (shape : TreeShape) (stuck : List Bool) (known known' : List (ℕ × ℕ)) (node alternative : ℕ) → passed_of known' node ≡ passed_of known node →
     ((alternative ≡ passed_of known node → ⊥) → NoneStuck shape stuck node (passed_of known node)) → (alternative ≡ passed_of known' node → ⊥) → NoneStuck shape stuck node (passed_of known' node)

@@ -69,7 +69,7 @@ pub fn climb(
         match shape.above(at) {
             Some((parent, alternative, _)) => {
                 let proved_above = is_proved_above(proved, known, shape, parent, alternative);
-                let stuck_above = is_stuck_above(stuck, known, shape, parent, alternative);
+                let stuck_above = is_stuck_above(stuck, known, shape, at, parent, alternative);
                 is_proved = proved_above;
                 is_stuck = stuck_above;
                 at = parent;

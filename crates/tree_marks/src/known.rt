@@ -156,17 +156,29 @@ fn has_passed(shape: &Shape, node: u32, passed: u32) -> bool
     true
 }
 
-// The first alternative that has no stuck child, where this one was before one alternative's children changed.
-fn further_passed(stuck: &[bool], shape: &Shape, node: u32, passed: u32, alternative: u32) -> u32
+// The first alternative that has no stuck child, where this one was before the marks of one alternative's child changed.
+fn further_passed(
+    stuck: &[bool],
+    shape: &Shape,
+    child: u32,
+    node: u32,
+    alternative: u32,
+    passed: u32,
+) -> u32
     requires shape { IsShape shape.now.shape }
     requires size { length stuck.now ≡ nodes_count shape.now.shape }
+    requires child { child < nodes_count shape.now.shape }
     requires stands { node < nodes_count shape.now.shape }
     requires before { EachEntry shape.now.shape node passed (some_child (marked stuck.now)) true }
     requires next { (alternative ≡ passed → ⊥) → NoneStuck shape.now.shape stuck.now node passed }
+    requires unstuck { marked stuck.now child ≡ false → NoneStuck shape.now.shape stuck.now node passed }
     ensures before { EachEntry shape.now.shape node result (some_child (marked stuck.now)) true }
     ensures next { NoneStuck shape.now.shape stuck.now node result }
 {
     if alternative != passed {
+        return passed;
+    }
+    if !stuck[child as usize] {
         return passed;
     }
     passed_from(stuck, shape, node, passed)
@@ -186,20 +198,24 @@ pub fn begin_passing(stuck: &[bool], known: &mut [(u32, u32)], shape: &Shape, no
     put_passed(known, node, passed);
 }
 
-// Whether a node is stuck, where only one alternative's children have changed.
+// Whether a node is stuck, where only the marks of one alternative's child have changed. It reads children only where that is stuck.
 pub fn is_stuck_above(
     stuck: &[bool],
     known: &mut [(u32, u32)],
     shape: &Shape,
+    child: u32,
     node: u32,
     alternative: u32,
 ) -> bool
     requires shape { IsShape shape.now.shape }
     requires stuck_size { length stuck.now ≡ nodes_count shape.now.shape }
     requires known_size { length known.old ≡ nodes_count shape.now.shape }
+    requires child { child < nodes_count shape.now.shape }
     requires stands { node < nodes_count shape.now.shape }
     requires before { EachEntry shape.now.shape node (passed_of known.old node) (some_child (marked stuck.now)) true }
     requires next { (alternative ≡ passed_of known.old node → ⊥)
+        → NoneStuck shape.now.shape stuck.now node (passed_of known.old node) }
+    requires unstuck { marked stuck.now child ≡ false
         → NoneStuck shape.now.shape stuck.now node (passed_of known.old node) }
     ensures is { result ≡ stuck_by (marked stuck.now) (alternatives_at shape.now.shape node) }
     ensures knows { KnowsStuck shape.now.shape stuck.now known.new node }
@@ -207,7 +223,7 @@ pub fn is_stuck_above(
     ensures run { (other : ℕ) → run_of known.new other ≡ run_of known.old other }
 {
     let passed = passed_at(known, node);
-    let further = further_passed(stuck, shape, node, passed, alternative);
+    let further = further_passed(stuck, shape, child, node, alternative, passed);
     put_passed(known, node, further);
     has_passed(shape, node, further)
 }

@@ -2,7 +2,7 @@
 use Rattle.std.proofs.Common.{◌∙◌, refl, sym, arith}
 use Rattle.tree_runs.proofs.Marks.{above-rises}
 use Rattle.tree_marks.proofs.Climbs.{written, other_parent, root_is_free}
-use Rattle.tree_marks.proofs.Knowing.{above, decides, climbs_on, moved_before, moved_next, has_above, written_knows_proved, root_knows_stuck}
+use Rattle.tree_marks.proofs.Knowing.{above, decides, climbs_on, moved_before, moved_next, moved_unstuck, has_above, written_knows_proved, root_knows_stuck}
 use Rattle.tree_marks.proofs.Spreading.{both}
 use Rattle.tree_marks.proofs.climb.climb.Goals as goal
 
@@ -42,9 +42,11 @@ is_stuck_above-stuck_above-requires c =
       shape = c.requires.shape;
       stuck_size = omega arith;
       known_size = omega arith;
+      child = c.up.invariant.stands;
       stands = omega (arith, rises);
       before = moved_before c.args.shape.now.shape _ c.up.known _ c.in-Some.parent (c.is_proved_above-proved_above.ensures.passed c.in-Some.parent) (a.before c.in-Some.parent);
       next = moved_next c.args.shape.now.shape _ c.up.known _ c.in-Some.parent c.in-Some.alternative (c.is_proved_above-proved_above.ensures.passed c.in-Some.parent) a.next;
+      unstuck = moved_unstuck c.args.shape.now.shape _ c.up.known _ c.up.at c.in-Some.parent (c.is_proved_above-proved_above.ensures.passed c.in-Some.parent) a.unstuck;
     }
 
 pub up-init : goal.up-init
@@ -75,7 +77,7 @@ up-preserved c =
       stands = omega (arith, rises);
       size = c.drop_around.ensures.size ∙ c.up.invariant.size;
       spare = c.drop_around.ensures.spare ∙ c.up.invariant.spare;
-      climbing = climbs_on c.args.shape.now.shape _ _ c.up.known _ _ _ c.in-Some.parent c.in-Some.alternative _ _
+      climbing = climbs_on c.args.shape.now.shape _ _ c.up.known _ _ _ c.up.at c.in-Some.parent c.in-Some.alternative _ _
           (λ other ne. written c.args.shape.now.shape c.requires.shape c.up.at c.up.proved c.up.stuck _ _ c.up.is_proved c.up.is_stuck (omega arith) (omega arith) c.put_flag.ensures c.put_flag-in-up.ensures
           c.up.invariant.climbing.proved_is c.up.invariant.climbing.stuck_is c.up.invariant.climbing.others other (other_parent c.args.shape.now.shape c.requires.shape c.up.at _ (sym c.in-Some.ensures) other ne))
           a c.is_proved_above-proved_above.ensures.is c.is_stuck_above-stuck_above.ensures.is c.is_proved_above-proved_above.ensures.knows c.is_proved_above-proved_above.ensures.passed
