@@ -1,13 +1,11 @@
 -- Children and alternatives that are read one by one.
-use Rattle.std.proofs.Common.{◌≡◌, inl, inr, ℕ, zero, suc, ◌+◌, ◌<◌, ◌≤◌, Bool, true, false, ◌&&◌, ◌||◌, List, [], ◌∷◌, length, Option, Some, None, refl, sym, ap, ◌∙◌, arith, add-one}
+use Rattle.std.proofs.Common.{◌≡◌, ℕ, zero, suc, ◌+◌, ◌<◌, ◌≤◌, Bool, true, false, ◌&&◌, ◌||◌, List, [], ◌∷◌, length, Option, Some, None, refl, sym, ap, ◌∙◌, arith, add-one}
 use Rattle.std.specs.Prelude.{slice_get}
 use Rattle.std.specs.Option.{option_map}
 use Rattle.std.specs.List.{list_any, list_all}
 use Rattle.std.proofs.lemmas.Option.{slice_get_within}
 use Rattle.tree_runs.specs.Shapes.{TreeShape, nodes_count, alternatives_at, IsShape}
-use Rattle.tree_runs.proofs.Lists.{below_or_past}
 use Rattle.tree_runs.specs.Marks.{all_from, any_from, all_children, some_child, proved_by, stuck_by, entry_at}
-use Rattle.tree_shape.specs.Room.{HasAlternative}
 use Rattle.tree_marks.specs.TreeMarks.{EachEntry}
 
 pub all_from-more : (test : ℕ → Bool) (first count : ℕ) → all_from test first (suc count) ≡ (all_from test first count && test (first + count))
@@ -89,9 +87,6 @@ pub record HasWidth (shape : TreeShape) (node width : ℕ) : Type 0 where
 pub has_width : (shape : TreeShape) (node width : ℕ) → Some width ≡ option_map length (alternatives_at shape node) → HasWidth shape node width
 has_width shape node width e = let known = width_known (alternatives_at shape node) width e in record { all = known.0; grown = known.1; size = known.2 }
 
-pub has_alternative : (shape : TreeShape) (node width alternative : ℕ) → Some width ≡ option_map length (alternatives_at shape node) → alternative < width → HasAlternative shape node alternative
-has_alternative shape node width alternative e within = let known = has_width shape node width e in record { all = known.all; grown = known.grown; within = omega (arith, known.size) }
-
 no_width : (o : Option (List (ℕ × ℕ))) → None ≡ option_map length o → o ≡ None
 no_width None e = refl
 no_width (Some all) e = absurd cc
@@ -117,15 +112,6 @@ children_stand shape is_shape node alternative first count e = known (alternativ
 -- the entries of a node, one by one
 pub entry_known : (shape : TreeShape) (node : ℕ) (all : List (ℕ × ℕ)) (alternative : ℕ) → alternatives_at shape node ≡ Some all → entry_at (alternatives_at shape node) alternative ≡ slice_get all alternative
 entry_known shape node all alternative g = ap (λ o. entry_at o alternative) g
-
-pub one_more_entry : (shape : TreeShape) (node bound : ℕ) (test : ℕ × ℕ → Bool) (answer : Bool) (entry : ℕ × ℕ) → EachEntry shape node bound test answer →
-    entry_at (alternatives_at shape node) bound ≡ Some entry → test entry ≡ answer → EachEntry shape node (bound + 1) test answer
-one_more_entry shape node bound test answer entry h e t alternative other within f = elim (below_or_past bound alternative) [
-  | inl small ↦ h alternative other small f
-  | inr p ↦ let same : alternative ≡ bound = omega (arith, p.1) in
-      let twice : Some other ≡ Some entry = sym f ∙ ap (entry_at (alternatives_at shape node)) same ∙ e in
-      let is : other ≡ entry = cc in ap test is ∙ t
-]
 
 pub proved_found : (shape : TreeShape) (node alternative : ℕ) (entry : ℕ × ℕ) (proved : ℕ → Bool) → entry_at (alternatives_at shape node) alternative ≡ Some entry →
     all_children proved entry ≡ true → proved_by proved (alternatives_at shape node) ≡ true

@@ -23,14 +23,6 @@ all_from-less test first (suc more) (suc less) h a =
     let parts = and_parts (test first) (all_from test (suc first) more) a in
     and_from (test first) (all_from test (suc first) less) parts.0 (all_from-less test (suc first) more less (omega arith) parts.1)
 
--- one number that is kept
-pub knows_run : (proved : List Bool) (known known' : List (ℕ × ℕ)) (first run : ℕ) → KnowsProved proved known → all_from (marked proved) first run ≡ true → run_of known' first ≡ run →
-    ((other : ℕ) → (other ≡ first → ⊥) → run_of known' other ≡ run_of known other) → KnowsProved proved known'
-knows_run proved known known' first run h new here others node = elim (same_or_other node first) [
-  | inl same ↦ ap (λ (n : ℕ). all_from (marked proved) n (run_of known' n)) same ∙ ap (all_from (marked proved) first) here ∙ new
-  | inr ne ↦ ap (all_from (marked proved) node) (others node ne) ∙ h node
-]
-
 pub same_runs : (proved : List Bool) (known known' : List (ℕ × ℕ)) → ((node : ℕ) → run_of known' node ≡ run_of known node) → KnowsProved proved known → KnowsProved proved known'
 same_runs proved known known' same h node = ap (all_from (marked proved) node) (same node) ∙ h node
 

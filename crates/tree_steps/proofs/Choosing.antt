@@ -1,5 +1,5 @@
 -- The alternatives of a node, taken until one has only proved children.
-use Rattle.std.proofs.Common.{◌≡◌, inl, inr, ℕ, ◌+◌, ◌<◌, ◌≤◌, true, false, length, Option, Some, None, refl, sym, ap, ◌∙◌, arith}
+use Rattle.std.proofs.Common.{◌≡◌, inl, inr, ℕ, ◌<◌, ◌≤◌, true, false, length, Option, Some, None, refl, sym, ap, ◌∙◌, arith}
 use Rattle.std.specs.Option.{option_map}
 use Rattle.std.proofs.lemmas.Option.{slice_get_cases}
 use Rattle.tree_runs.specs.Shapes.{TreeShape, alternatives_at, IsShape}
@@ -12,12 +12,6 @@ use Rattle.tree_marks.proofs.Entries.{has_width, entry_known, not_grown, proved_
 -- no alternative before this one has only proved children
 abbrev pub NoneProvedBefore : TreeShape → ℕ → ℕ → Type 0
 NoneProvedBefore shape node bound = (other : ℕ) → other < bound → is_alternative_proved shape node other ≡ false
-
-pub one_more : (shape : TreeShape) (node bound : ℕ) → NoneProvedBefore shape node bound → is_alternative_proved shape node bound ≡ false → NoneProvedBefore shape node (bound + 1)
-one_more shape node bound h here other small = elim (below_or_past bound other) [
-  | inl before ↦ h other before
-  | inr p ↦ let same : other ≡ bound = omega (arith, p.1) in ap (is_alternative_proved shape node) same ∙ here
-]
 
 -- none is past the last
 pub none_at_all : (shape : TreeShape) (node width bound : ℕ) → Some width ≡ option_map length (alternatives_at shape node) → width ≤ bound → NoneProvedBefore shape node bound → (alternative : ℕ) → is_alternative_proved shape node alternative ≡ false
