@@ -1,5 +1,5 @@
 -- A tree holds what it was given, and more.
-use Rattle.std.proofs.Common.{◌≡◌, ℕ, zero, suc, Bool, true, false, cond, ◌&&◌, List, [], ◌∷◌, ◌++◌, length, Option, Some, None, option_to_list, refl, sym, ap, ◌∙◌, subst, arith, eqb-true}
+use Rattle.std.proofs.Common.{◌≡◌, ℕ, zero, suc, ◌+◌, ◌<◌, ◌≤◌, Bool, true, false, cond, ◌&&◌, List, [], ◌∷◌, ◌++◌, length, Option, Some, None, length-append, ◌⊎◌, inl, inr, option_to_list, refl, sym, ap, ◌∙◌, subst, arith, eqb-true}
 use Rattle.std.specs.Prelude.{slice_get, Contains, nat_eq}
 use Rattle.std.specs.Map.{lookup, values_of}
 use Rattle.std.proofs.lemmas.List.Elements.{Contains-append_left, Contains-append_right}
@@ -12,8 +12,8 @@ use Rattle.rule_index.specs.declared.node.Node.{Node}
 use Rattle.rule_index.specs.declared.tree.Tree.{Tree}
 use Rattle.rule_index.specs.Keys.{RuleKey, fits_all, of_family, KeyedRule, all_allow}
 use Rattle.rule_index.specs.Stored.{meets}
-use Rattle.rule_index.specs.Trees.{branch_of, Reaches, AddsBranches, TreeGrows, Holds, HoldsRules, Finds, Walks}
-use Rattle.rule_index.proofs.Nodes.{reaches_later}
+use Rattle.rule_index.specs.Trees.{branch_of, Reaches, AddsBranches, AreClosed, IsClosed, TreeGrows, Holds, HoldsRules, Finds, Walks}
+use Rattle.rule_index.proofs.Nodes.{reaches_later, closed_more}
 
 -- The branches that a demand leaves.
 
@@ -71,8 +71,8 @@ holds_later old new grows fits_all place h = grows.general place h
 holds_later old new grows (of_family f parts) place (root, root_is, reaches, few) =
     (root, grows.families f root root_is, reaches_later old.nodes.items new.nodes.items grows.nodes place root parts reaches, omega (arith, few, grows.levels))
 
-pub rules_later : (old new : Tree) (rules : List KeyedRule) → TreeGrows old new → HoldsRules old rules → HoldsRules new rules
-rules_later old new rules grows holds place rule is = holds_later old new grows rule.key place (holds place rule is)
+pub rules_later : (old new : Tree) (rules : List KeyedRule) → TreeGrows old new → IsClosed new → HoldsRules old rules → HoldsRules new rules
+rules_later old new rules grows closed before = record { closed = closed; holds = λ place rule is. holds_later old new grows rule.key place (before.holds place rule is) }
 
 last_or_before : (rules : List KeyedRule) (last rule : KeyedRule) (place : ℕ) (P : KeyedRule → ℕ → Type 0) → ((i : ℕ) (r : KeyedRule) → slice_get rules i ≡ Some r → P r i) → P last (length rules) →
     slice_get (rules ++ last ∷ []) place ≡ Some rule → P rule place
@@ -82,10 +82,45 @@ last_or_before (first ∷ rules) last rule zero P before here is = before zero r
 last_or_before (first ∷ rules) last rule (suc place) P before here is = last_or_before rules last rule place (λ r i. P r (suc i)) (λ i r e. before (suc i) r e) here is
 
 pub rules_more : (tree : Tree) (rules new : List KeyedRule) (rule : KeyedRule) (n : ℕ) → n ≡ length rules → new ≡ rules ++ rule ∷ [] → HoldsRules tree rules → Holds tree rule.key n → HoldsRules tree new
-rules_more tree rules new rule n n_is is holds here =
+rules_more tree rules new rule n n_is is before here =
     let P : List KeyedRule → Type 0 = HoldsRules tree in
     let Q : ℕ → Type 0 = Holds tree rule.key in
-    subst P (sym is) (λ place other e. last_or_before rules rule other place (λ r i. Holds tree r.key i) holds (subst Q n_is here) e)
+    subst P (sym is) (record { closed = before.closed; holds = λ place other e. last_or_before rules rule other place (λ r i. Holds tree r.key i) before.holds (subst Q n_is here) e })
+
+-- Trees whose branches and roots are nodes.
+
+pub closed_still : (tree new : Tree) → new.nodes.items ≡ tree.nodes.items → new.families ≡ tree.families → IsClosed tree → IsClosed new
+closed_still tree new nodes_are families_are closed = record {
+  branches = (let P : List Node → Type 0 = AreClosed in subst P (sym nodes_are) closed.branches);
+  roots = λ f root e. (let P : List Node → Type 0 = λ nodes. root < length nodes in subst P (sym nodes_are) (closed.roots f root (ap (λ m. get nat_eq m f) (sym families_are) ∙ e)));
+}
+
+pub closed_longer : (tree new : Tree) → AreClosed new.nodes.items → length tree.nodes.items ≤ length new.nodes.items → new.families ≡ tree.families → IsClosed tree → IsClosed new
+closed_longer tree new branches longer families_are closed = record { branches = branches; roots = λ f root e. omega (arith, longer, closed.roots f root (ap (λ m. get nat_eq m f) (sym families_are) ∙ e)) }
+
+-- A family with its root is added, or the root alone.
+module _ (tree new : Tree) (added : Node) (n : ℕ) (nodes_are : new.nodes.items ≡ tree.nodes.items ++ added ∷ []) (n_is : n ≡ length tree.nodes.items) (none : added.open_branch ≡ None) (empty : added.constants.entries ≡ []) (closed : IsClosed tree) where
+  long : length new.nodes.items ≡ length tree.nodes.items + 1
+  long = ap length nodes_are ∙ length-append tree.nodes.items (added ∷ [])
+
+  pub root_alone : new.families.entries ≡ tree.families.entries → IsClosed new
+  root_alone families_are = record {
+    branches = closed_more tree.nodes.items new.nodes.items added nodes_are none empty closed.branches;
+    roots = λ f root e. omega (arith, long, closed.roots f root (ap (lookup (nat_eq f)) (sym families_are) ∙ e));
+  }
+
+  old_or_new : (b : Bool) (o : Option ℕ) (root : ℕ) → cond b (Some n) o ≡ Some root → (o ≡ Some root) ⊎ (n ≡ root)
+  old_or_new true o root e = inr (Some_inj refl e)
+  old_or_new false o root e = inl e
+
+  pub root_of_family : (f : ℕ) → ((other : ℕ) → get nat_eq new.families other ≡ cond (nat_eq f other) (Some n) (get nat_eq tree.families other)) → IsClosed new
+  root_of_family f families_are = record {
+    branches = closed_more tree.nodes.items new.nodes.items added nodes_are none empty closed.branches;
+    roots = λ other root e. elim (old_or_new (nat_eq f other) (get nat_eq tree.families other) root (sym (families_are other) ∙ e)) [
+      | inl before ↦ omega (arith, long, closed.roots other root before)
+      | inr same ↦ omega (arith, long, n_is, same)
+    ];
+  }
 
 -- What a look-up finds.
 

@@ -1,5 +1,5 @@
 -- What a discrimination tree holds: the places of rules in a list, found along the parts of their keys.
-use Rattle.std.specs.Prelude.{◌≡◌, ℕ, ◌<◌, ◌≤◌, ◌+◌, List, [], ◌∷◌, length, Option, Some, None, slice_get, Contains, true, nat_eq}
+use Rattle.std.specs.Prelude.{◌≡◌, ℕ, ◌<◌, ◌≤◌, ◌+◌, ◌⊎◌, List, [], ◌∷◌, length, Option, Some, None, slice_get, Contains, true, nat_eq}
 use Rattle.indexmap.specs.IndexMap.{get}
 use Rattle.lf_definitions.specs.Syntax.{Spine, LfAtom}
 use Rattle.rule_index.specs.declared.key.Demand.{Demand}
@@ -39,6 +39,20 @@ Reaches nodes place number (part ∷ parts) = (child : ℕ) × Leads nodes numbe
 pub record NodesGrow (old new : List Node) : Type 0 where
   pub places : (number place : ℕ) → HasPlace old number place → HasPlace new number place
   pub leads : (number : ℕ) (part : Option ℕ) (child : ℕ) → Leads old number part child → Leads new number part child
+  pub longer : length old ≤ length new
+
+-- Each branch of a node is what an older one had, or is within the bound.
+abbrev pub BringsWithin : Node → Node → ℕ → Type 0
+BringsWithin old new bound = (part : Option ℕ) (child : ℕ) → branch_of new part ≡ Some child → (branch_of old part ≡ Some child) ⊎ (child < bound)
+
+-- Each branch is the number of a node.
+abbrev pub AreClosed : List Node → Type 0
+AreClosed nodes = (number : ℕ) (part : Option ℕ) (child : ℕ) → Leads nodes number part child → child < length nodes
+
+-- In a tree each branch is the number of a node, and so is the root of each family.
+pub record IsClosed (tree : Tree) : Type 0 where
+  pub branches : AreClosed tree.nodes.items
+  pub roots : (f root : ℕ) → get nat_eq tree.families f ≡ Some root → root < length tree.nodes.items
 
 -- The tree keeps what it holds.
 pub record TreeGrows (old new : Tree) : Type 0 where
@@ -54,8 +68,9 @@ Holds tree (of_family f parts) place =
     (root : ℕ) × (get nat_eq tree.families f ≡ Some root) × Reaches tree.nodes.items place root parts × (length parts < tree.levels)
 
 -- The tree has the place of each rule under its key.
-abbrev pub HoldsRules : Tree → List KeyedRule → Type 0
-HoldsRules tree rules = (place : ℕ) (rule : KeyedRule) → slice_get rules place ≡ Some rule → Holds tree rule.key place
+pub record HoldsRules (tree : Tree) (rules : List KeyedRule) : Type 0 where
+  pub closed : IsClosed tree
+  pub holds : (place : ℕ) (rule : KeyedRule) → slice_get rules place ≡ Some rule → Holds tree rule.key place
 
 -- Each branch of the node that meets the demand was added.
 pub record AddsBranches (node : Node) (demand : Demand) (old new : List ℕ) : Type 0 where

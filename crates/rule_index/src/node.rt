@@ -1,9 +1,9 @@
 //! Nodes of a discrimination tree. They stand in one vector and name each other by their numbers in it.
 
-ghost use Rattle.std.specs.Prelude.{◌≡◌, ◌++◌, ℕ, None, Some, IfOk, OnOk, Contains};
+ghost use Rattle.std.specs.Prelude.{◌≡◌, ◌<◌, ◌+◌, ◌++◌, ℕ, [], length, None, Some, IfOk, OnOk, Contains};
 ghost use Rattle.std.specs.Option.{option_to_list};
 ghost use Rattle.indexmap.specs.IndexMap.{values};
-ghost use Rattle.rule_index.specs.Trees.{branch_of, NodeGrows, HasPlace, Leads, Reaches, NodesGrow, AddsBranches};
+ghost use Rattle.rule_index.specs.Trees.{branch_of, NodeGrows, HasPlace, Leads, Reaches, NodesGrow, AddsBranches, BringsWithin, AreClosed};
 
 use crate::key::Demand;
 use basics::NoMemory;
@@ -20,7 +20,10 @@ pub(crate) struct Node {
 }
 
 impl Node {
-    pub(crate) fn new(alloc: Global) -> Node {
+    pub(crate) fn new(alloc: Global) -> Node
+        ensures open { result.open_branch ≡ None }
+        ensures constants { result.constants.entries ≡ [] }
+    {
         Node {
             places: Vec::new(alloc),
             open_branch: None,
@@ -42,6 +45,7 @@ impl Node {
     fn add_branch(&mut self, part: Option<u32>, child: usize) -> Result<(), NoMemory>
         requires { branch_of self.old part ≡ None }
         ensures grows { NodeGrows self.old self.new }
+        ensures brings { BringsWithin self.old self.new (child + 1) }
         ensures ok { OnOk result (branch_of self.new part ≡ Some child) }
     {
         match part {
@@ -56,6 +60,8 @@ impl Node {
     // Adds the place of a rule whose key ends here.
     fn add_place(&mut self, place: usize) -> Result<(), NoMemory>
         ensures grows { NodeGrows self.old self.new }
+        ensures open { self.new.open_branch ≡ self.old.open_branch }
+        ensures constants { self.new.constants ≡ self.old.constants }
         ensures ok { OnOk result (Contains self.new.places.items place) }
     {
         self.places.push(place)?;
@@ -103,7 +109,10 @@ pub(crate) fn insert(
     parts: &[Option<u32>],
     place: usize,
 ) -> Result<(), NoMemory>
+    requires within { root < length nodes.old.items }
+    requires closed { AreClosed nodes.old.items }
     ensures grows { NodesGrow nodes.old.items nodes.new.items }
+    ensures closed { AreClosed nodes.new.items }
     ensures ok { OnOk result (Reaches nodes.new.items place root parts.now) }
 {
     let mut number = root;
@@ -115,12 +124,12 @@ pub(crate) fn insert(
 
 // Adds a place to the node of a number.
 fn put(nodes: &mut Vec<Node>, number: usize, place: usize) -> Result<(), NoMemory>
+    requires within { number < length nodes.old.items }
+    requires closed { AreClosed nodes.old.items }
     ensures grows { NodesGrow nodes.old.items nodes.new.items }
+    ensures closed { AreClosed nodes.new.items }
     ensures ok { OnOk result (HasPlace nodes.new.items number place) }
 {
-    if number >= nodes.len() {
-        return Err(NoMemory);
-    }
     nodes[number].add_place(place)
 }
 
@@ -131,12 +140,12 @@ fn below(
     number: usize,
     part: Option<u32>,
 ) -> Result<usize, NoMemory>
+    requires within { number < length nodes.old.items }
+    requires closed { AreClosed nodes.old.items }
     ensures grows { NodesGrow nodes.old.items nodes.new.items }
+    ensures closed { AreClosed nodes.new.items }
     ensures ok { IfOk result (λ child. Leads nodes.new.items number part child) }
 {
-    if number >= nodes.len() {
-        return Err(NoMemory);
-    }
     if let Some(child) = nodes[number].branch(part) {
         return Ok(child);
     }

@@ -4,7 +4,7 @@ ghost use Rattle.std.specs.Prelude.{◌≡◌, Some, IfOk, OnOk, length, nat_eq}
 ghost use Rattle.indexmap.specs.IndexMap.{get};
 ghost use Rattle.lf_terms.specs.Terms.{spine_of};
 ghost use Rattle.rule_index.specs.Stored.{stored_key, target_atom};
-ghost use Rattle.rule_index.specs.Trees.{TreeGrows, Holds, Finds, Walks, PassesLevel};
+ghost use Rattle.rule_index.specs.Trees.{IsClosed, TreeGrows, Holds, Finds, Walks, PassesLevel};
 
 use crate::key::{Demand, Key, demand_at};
 use crate::node::{Node, insert};
@@ -24,7 +24,9 @@ pub(crate) struct Tree {
 }
 
 impl Tree {
-    pub(crate) fn new(alloc: Global) -> Tree {
+    pub(crate) fn new(alloc: Global) -> Tree
+        ensures { IsClosed result }
+    {
         Tree {
             general: Vec::new(alloc),
             families: IndexMap::new(alloc),
@@ -35,7 +37,9 @@ impl Tree {
 
     // Adds the place of a rule under its key.
     pub(crate) fn add(&mut self, alloc: Global, key: &Key, place: usize) -> Result<(), NoMemory>
+        requires { IsClosed self.old }
         ensures grows { TreeGrows self.old self.new }
+        ensures closed { IsClosed self.new }
         ensures ok { OnOk result (Holds self.new (stored_key key.now) place) }
     {
         match key {
@@ -53,7 +57,9 @@ impl Tree {
 
     // The node with which a family begins, which is added where there is none.
     fn root(&mut self, alloc: Global, family: u32) -> Result<usize, NoMemory>
+        requires { IsClosed self.old }
         ensures grows { TreeGrows self.old self.new }
+        ensures closed { IsClosed self.new }
         ensures ok { IfOk result (λ root. get nat_eq self.new.families family ≡ Some root) }
     {
         if let Some(root) = self.families.get(&family) {
