@@ -1,19 +1,17 @@
 -- A look-up passes the levels of a tree.
-use Rattle.std.proofs.Common.{◌≡◌, ℕ, ◌+◌, ◌<◌, ◌≤◌, true, List, [], ◌∷◌, ◌++◌, length, Option, Some, refl, sym, ap, ◌∙◌, subst, arith, below_more, ◌⊎◌, inl, inr}
+use Rattle.std.proofs.Common.{◌≡◌, ℕ, ◌+◌, ◌<◌, ◌≤◌, true, List, [], ◌∷◌, ◌++◌, length, Option, Some, sym, ap, ◌∙◌, subst, arith, below_more, ◌⊎◌, inl, inr}
 use Rattle.std.specs.Prelude.{slice_get, Contains}
 use Rattle.std.proofs.lemmas.List.Elements.{Contains-append_left, Contains-append_right}
-use Rattle.std.proofs.lemmas.Option.{slice_get_within, slice_get_read}
+use Rattle.std.proofs.lemmas.Option.{slice_get_within}
 use Rattle.lf_definitions.specs.Syntax.{Spine}
+use Rattle.rule_sets.proofs.Candidates.{at_from_Contains}
 use Rattle.lf_definitions.proofs.Options.{Some_inj}
 use Rattle.rule_index.specs.declared.key.Demand.{Demand}
 use Rattle.rule_index.specs.declared.node.Node.{Node}
 use Rattle.rule_index.specs.Keys.{all_allow}
 use Rattle.rule_index.specs.Stored.{demand_at, args_from}
-use Rattle.rule_index.specs.Trees.{branch_of, HasPlace, Leads, Reaches, AddsBranches, PassesLevel, IsAhead, Walks}
+use Rattle.rule_index.specs.Trees.{branch_of, HoldsPlace, Leads, Reaches, AddsBranches, PassesLevel, IsAhead, WalksBranches}
 use Rattle.rule_index.proofs.Demands.{from_start, part_met, others_met}
-
-pub contains_at : {X : Type 0} (xs : List X) (x : X) → Contains xs x → (i : ℕ) × (slice_get xs i ≡ Some x)
-contains_at xs x (k, within, e) = (k, slice_get_read xs (length xs) k x refl within (sym e))
 
 -- One level, node by node.
 
@@ -25,7 +23,7 @@ module _ (nodes : List Node) (numbers : List ℕ) (i : ℕ) (demand : Demand) (o
   pass_skipped past = record {
     keeps = so_far.keeps;
     finds = λ j other place less is has.
-        below_more (λ k. (m : ℕ) → slice_get numbers k ≡ Some m → HasPlace nodes m place → Contains places place) i
+        below_more (λ k. (m : ℕ) → slice_get numbers k ≡ Some m → HoldsPlace nodes m place → Contains places place) i
         (λ k below m m_is h. so_far.finds k m place below m_is h)
         (λ m m_is h. let same : number ≡ m = Some_inj number_is m_is in let within = slice_get_within nodes m h.node h.node_is in absurd (omega (arith, same, within)))
         j less other is has;
@@ -42,7 +40,7 @@ module _ (nodes : List Node) (numbers : List ℕ) (i : ℕ) (demand : Demand) (o
       record {
         keeps = λ place h. subst (P place) (sym more_is) (Contains-append_left places node.places.items place (so_far.keeps place h));
         finds = λ j other place less is has.
-            below_more (λ k. (m : ℕ) → slice_get numbers k ≡ Some m → HasPlace nodes m place → Contains more place) i
+            below_more (λ k. (m : ℕ) → slice_get numbers k ≡ Some m → HoldsPlace nodes m place → Contains more place) i
             (λ k below m m_is h. subst (P place) (sym more_is) (Contains-append_left places node.places.items place (so_far.finds k m place below m_is h)))
             (λ m m_is h.
             let same : node ≡ h.node = Some_inj node_is (ap (slice_get nodes) (Some_inj number_is m_is) ∙ h.node_is) in
@@ -76,10 +74,10 @@ step : (nodes : List Node) (args : Spine) (levels level place : ℕ) (old places
     (parts : List (Option ℕ)) (number : ℕ) → Contains numbers number → Reaches nodes place number parts → all_allow parts (args_from level args) ≡ true → level + length parts < levels →
     Contains places place ⊎ IsAhead nodes next args (level + 1) levels place
 step nodes args levels level place old places numbers next passes [] number has reaches allow few =
-    let here = contains_at numbers number has in
+    let here = at_from_Contains numbers number has in
     inl (passes.finds here.0 number place (slice_get_within numbers here.0 number here.1) here.1 reaches)
 step nodes args levels level place old places numbers next passes (part ∷ parts) number has (child, leads, rest) allow few =
-    let here = contains_at numbers number has in
+    let here = at_from_Contains numbers number has in
     inr (record {
       number = child;
       parts = parts;
@@ -99,7 +97,7 @@ walk_goes_on nodes root args levels level old places numbers more next walks pas
   ];
 }
 
-pub walk_ends : (nodes : List Node) (root : ℕ) (args : Spine) (levels level : ℕ) (old places numbers : List ℕ) → levels ≤ level → WalksTo nodes root args levels level old places numbers → Walks nodes root args levels old places
+pub walk_ends : (nodes : List Node) (root : ℕ) (args : Spine) (levels level : ℕ) (old places numbers : List ℕ) → levels ≤ level → WalksTo nodes root args levels level old places numbers → WalksBranches nodes root args levels old places
 walk_ends nodes root args levels level old places numbers past walks = record {
   keeps = walks.keeps;
   finds = λ place parts reaches allow few. elim (walks.finds place parts reaches allow few) [ inl found ↦ found | inr ahead ↦ absurd (let few_ahead = ahead.few in omega (arith, past, few_ahead)) ];

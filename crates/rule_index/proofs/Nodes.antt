@@ -1,5 +1,5 @@
 -- Nodes that grow, one at a time.
-use Rattle.std.proofs.Common.{◌≡◌, ◌≢◌, ℕ, zero, suc, ◌+◌, ◌<◌, ◌≤◌, List, [], ◌∷◌, ◌++◌, length, get_or, set, drop, length-append, length-set, Option, Some, None, Result, Ok, Err, OnOk, refl, sym, ap, ◌∙◌, subst, arith, ◌⊎◌, inl, inr}
+use Rattle.std.proofs.Common.{◌≡◌, ◌≢◌, ℕ, zero, suc, ◌+◌, ◌<◌, ◌≤◌, List, [], ◌∷◌, ◌++◌, length, get_or, set, drop, length-append, length-set, Option, Some, None, refl, sym, ap, ◌∙◌, subst, arith, ◌⊎◌, inl, inr}
 use Rattle.std.specs.Prelude.{slice_get, slice_set, Contains, nat_eq}
 use Rattle.std.specs.Map.{lookup}
 use Rattle.std.proofs.lemmas.List.{drop_more, drop_all}
@@ -8,11 +8,7 @@ use Rattle.lf_definitions.proofs.Options.{Some_inj, None-Some}
 use Rattle.lf_definitions.proofs.Lists.{slice_get-prefix}
 use Rattle.indexmap.specs.IndexMap.{get}
 use Rattle.rule_index.specs.declared.node.Node.{Node}
-use Rattle.rule_index.specs.Trees.{branch_of, NodeGrows, HasPlace, Leads, Reaches, NodesGrow, BringsWithin, AreClosed}
-
-pub on_ok : {T E : Type 0} (r : Result T E) (P Q : Type 0) → (P → Q) → OnOk r P → OnOk r Q
-on_ok (Ok x) P Q f h = f h
-on_ok (Err e) P Q f h = h
+use Rattle.rule_index.specs.Trees.{branch_of, NodeGrows, HoldsPlace, Leads, Reaches, NodesGrow, BringsWithin, BranchesAreNodes}
 
 set_here : (nodes : List Node) (i : ℕ) (new : Node) → i < length nodes → slice_get (set nodes i new) i ≡ Some new
 set_here [] i new within = absurd (omega arith)
@@ -81,7 +77,7 @@ module _ (nodes : List Node) (i : ℕ) (node new : Node) (node_is : slice_get no
     longer = omega (arith, length-set nodes i new);
   }
 
-  pub closed_set : (bound : ℕ) → bound ≤ length nodes → BringsWithin node new bound → AreClosed nodes → AreClosed (slice_set nodes i new)
+  pub closed_set : (bound : ℕ) → bound ≤ length nodes → BringsWithin node new bound → BranchesAreNodes nodes → BranchesAreNodes (slice_set nodes i new)
   closed_set bound few brings closed number part child h =
       let long = length-set nodes i new in
       elim (same_or_not i number) [
@@ -110,7 +106,7 @@ within_more (first ∷ nodes) new node zero e = inl e
 within_more (first ∷ nodes) new node (suc i) e = within_more nodes new node i e
 
 -- A node with no branch is added.
-pub closed_more : (nodes more : List Node) (new : Node) → more ≡ nodes ++ new ∷ [] → new.open_branch ≡ None → new.constants.entries ≡ [] → AreClosed nodes → AreClosed more
+pub closed_more : (nodes more : List Node) (new : Node) → more ≡ nodes ++ new ∷ [] → new.open_branch ≡ None → new.constants.entries ≡ [] → BranchesAreNodes nodes → BranchesAreNodes more
 closed_more nodes more new more_is none empty closed number part child h =
     let long : length more ≡ length nodes + 1 = ap length more_is ∙ length-append nodes (new ∷ []) in
     elim (within_more nodes new h.node number (ap (λ ns. slice_get ns number) (sym more_is) ∙ h.node_is)) [
@@ -140,7 +136,7 @@ way_goes_on nodes new root parts place index number child way within grows leads
 }
 
 pub way_ends : (nodes new : List Node) (root : ℕ) (parts : List (Option ℕ)) (place index number : ℕ) → IsOnTheWay nodes root parts place index number → length parts ≤ index → NodesGrow nodes new →
-    HasPlace new number place → Reaches new place root parts
+    HoldsPlace new number place → Reaches new place root parts
 way_ends nodes new root parts place index number way past grows has =
     let P : List (Option ℕ) → Type 0 = Reaches new place number in
     way.reaches new grows (subst P (sym (drop_all index parts past)) has)

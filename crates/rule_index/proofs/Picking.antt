@@ -10,7 +10,7 @@ use Rattle.std.proofs.lemmas.List.Sorted.{sorted_far, ranks_by}
 use Rattle.std.proofs.lemmas.Option.{slice_get_within, get_or_from_slice_get, slice_get_cases}
 use Rattle.lf_definitions.proofs.Options.{Some_inj}
 use Rattle.rule_index.specs.Keys.{KeyedRule}
-use Rattle.rule_index.proofs.Levels.{contains_at}
+use Rattle.rule_sets.proofs.Candidates.{at_from_Contains}
 
 -- Rules that pass a test, by their numbers.
 module _ (good : KeyedRule → Bool) (rules : List KeyedRule) where
@@ -43,7 +43,7 @@ module _ (good : KeyedRule → Bool) (rules : List KeyedRule) where
   pub picking_begins : (places : List ℕ) → ((place : ℕ) (rule : KeyedRule) → slice_get rules place ≡ Some rule → good rule ≡ true → Contains places place) → HasPicked places 0 0 []
   picking_begins places all = record {
     picked = refl;
-    to_come = λ place rule is passes from. let here = contains_at places place (all place rule is passes) in (here.0, omega arith, here.1);
+    to_come = λ place rule is passes from. let here = at_from_Contains places place (all place rule is passes) in (here.0, omega arith, here.1);
   }
 
   is_not : (b : Bool) → (b ≡ true → ⊥) → b ≡ false

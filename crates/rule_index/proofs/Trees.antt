@@ -9,10 +9,10 @@ use Rattle.lf_definitions.proofs.Options.{Some_inj}
 use Rattle.rule_index.specs.declared.key.Demand.{Demand}
 use Rattle.rule_index.specs.declared.key.Demand.TheVariants.{Constant}
 use Rattle.rule_index.specs.declared.node.Node.{Node}
-use Rattle.rule_index.specs.declared.tree.Tree.{Tree}
+use Rattle.rule_index.specs.declared.tree.KeyTree.{KeyTree}
 use Rattle.rule_index.specs.Keys.{RuleKey, fits_all, of_family, KeyedRule, all_allow}
 use Rattle.rule_index.specs.Stored.{meets}
-use Rattle.rule_index.specs.Trees.{branch_of, Reaches, AddsBranches, AreClosed, IsClosed, TreeGrows, Holds, HoldsRules, Finds, Walks}
+use Rattle.rule_index.specs.Trees.{branch_of, Reaches, AddsBranches, BranchesAreNodes, IsClosed, TreeGrows, Holds, HoldsRules, FindsPlaces, WalksBranches}
 use Rattle.rule_index.proofs.Nodes.{reaches_later, closed_more}
 
 -- The branches that a demand leaves.
@@ -66,12 +66,12 @@ module _ (node : Node) (old between new : List ℕ) (first : between ≡ old ++ 
 
 -- Trees that grow.
 
-pub holds_later : (old new : Tree) → TreeGrows old new → (key : RuleKey) (place : ℕ) → Holds old key place → Holds new key place
+pub holds_later : (old new : KeyTree) → TreeGrows old new → (key : RuleKey) (place : ℕ) → Holds old key place → Holds new key place
 holds_later old new grows fits_all place h = grows.general place h
 holds_later old new grows (of_family f parts) place (root, root_is, reaches, few) =
     (root, grows.families f root root_is, reaches_later old.nodes.items new.nodes.items grows.nodes place root parts reaches, omega (arith, few, grows.levels))
 
-pub rules_later : (old new : Tree) (rules : List KeyedRule) → TreeGrows old new → IsClosed new → HoldsRules old rules → HoldsRules new rules
+pub rules_later : (old new : KeyTree) (rules : List KeyedRule) → TreeGrows old new → IsClosed new → HoldsRules old rules → HoldsRules new rules
 rules_later old new rules grows closed before = record { closed = closed; holds = λ place rule is. holds_later old new grows rule.key place (before.holds place rule is) }
 
 last_or_before : (rules : List KeyedRule) (last rule : KeyedRule) (place : ℕ) (P : KeyedRule → ℕ → Type 0) → ((i : ℕ) (r : KeyedRule) → slice_get rules i ≡ Some r → P r i) → P last (length rules) →
@@ -81,7 +81,7 @@ last_or_before [] last rule (suc place) P before here is = absurd cc
 last_or_before (first ∷ rules) last rule zero P before here is = before zero rule is
 last_or_before (first ∷ rules) last rule (suc place) P before here is = last_or_before rules last rule place (λ r i. P r (suc i)) (λ i r e. before (suc i) r e) here is
 
-pub rules_more : (tree : Tree) (rules new : List KeyedRule) (rule : KeyedRule) (n : ℕ) → n ≡ length rules → new ≡ rules ++ rule ∷ [] → HoldsRules tree rules → Holds tree rule.key n → HoldsRules tree new
+pub rules_more : (tree : KeyTree) (rules new : List KeyedRule) (rule : KeyedRule) (n : ℕ) → n ≡ length rules → new ≡ rules ++ rule ∷ [] → HoldsRules tree rules → Holds tree rule.key n → HoldsRules tree new
 rules_more tree rules new rule n n_is is before here =
     let P : List KeyedRule → Type 0 = HoldsRules tree in
     let Q : ℕ → Type 0 = Holds tree rule.key in
@@ -89,17 +89,17 @@ rules_more tree rules new rule n n_is is before here =
 
 -- Trees whose branches and roots are nodes.
 
-pub closed_still : (tree new : Tree) → new.nodes.items ≡ tree.nodes.items → new.families ≡ tree.families → IsClosed tree → IsClosed new
+pub closed_still : (tree new : KeyTree) → new.nodes.items ≡ tree.nodes.items → new.families ≡ tree.families → IsClosed tree → IsClosed new
 closed_still tree new nodes_are families_are closed = record {
-  branches = (let P : List Node → Type 0 = AreClosed in subst P (sym nodes_are) closed.branches);
+  branches = (let P : List Node → Type 0 = BranchesAreNodes in subst P (sym nodes_are) closed.branches);
   roots = λ f root e. (let P : List Node → Type 0 = λ nodes. root < length nodes in subst P (sym nodes_are) (closed.roots f root (ap (λ m. get nat_eq m f) (sym families_are) ∙ e)));
 }
 
-pub closed_longer : (tree new : Tree) → AreClosed new.nodes.items → length tree.nodes.items ≤ length new.nodes.items → new.families ≡ tree.families → IsClosed tree → IsClosed new
+pub closed_longer : (tree new : KeyTree) → BranchesAreNodes new.nodes.items → length tree.nodes.items ≤ length new.nodes.items → new.families ≡ tree.families → IsClosed tree → IsClosed new
 closed_longer tree new branches longer families_are closed = record { branches = branches; roots = λ f root e. omega (arith, longer, closed.roots f root (ap (λ m. get nat_eq m f) (sym families_are) ∙ e)) }
 
 -- A family with its root is added, or the root alone.
-module _ (tree new : Tree) (added : Node) (n : ℕ) (nodes_are : new.nodes.items ≡ tree.nodes.items ++ added ∷ []) (n_is : n ≡ length tree.nodes.items) (none : added.open_branch ≡ None) (empty : added.constants.entries ≡ []) (closed : IsClosed tree) where
+module _ (tree new : KeyTree) (added : Node) (n : ℕ) (nodes_are : new.nodes.items ≡ tree.nodes.items ++ added ∷ []) (n_is : n ≡ length tree.nodes.items) (none : added.open_branch ≡ None) (empty : added.constants.entries ≡ []) (closed : IsClosed tree) where
   long : length new.nodes.items ≡ length tree.nodes.items + 1
   long = ap length nodes_are ∙ length-append tree.nodes.items (added ∷ [])
 
@@ -124,13 +124,13 @@ module _ (tree new : Tree) (added : Node) (n : ℕ) (nodes_are : new.nodes.items
 
 -- What a look-up finds.
 
-module _ (tree : Tree) (target : LfAtom) where
+module _ (tree : KeyTree) (target : LfAtom) where
   both : (a b : Bool) → a && b ≡ true → (a ≡ true) × (b ≡ true)
   both true b h = (refl, h)
   both false b h = absurd cc
 
   pub finds_with_root : (root : ℕ) (general places : List ℕ) → get nat_eq tree.families target.atom_family ≡ Some root → general ≡ tree.general.items →
-      Walks tree.nodes.items root target.atom_args tree.levels general places → Finds tree target places
+      WalksBranches tree.nodes.items root target.atom_args tree.levels general places → FindsPlaces tree target places
   finds_with_root root general places root_is general_is walks fits_all place h compatible =
       let P : List ℕ → Type 0 = λ xs. Contains xs place in walks.keeps place (subst P (sym general_is) h)
   finds_with_root root general places root_is general_is walks (of_family f parts) place (first, first_is, reaches, few) compatible =
@@ -139,7 +139,7 @@ module _ (tree : Tree) (target : LfAtom) where
       let P : ℕ → Type 0 = λ r. Reaches tree.nodes.items place r parts in
       walks.finds place parts (subst P same reaches) parts_of.1 few
 
-  pub finds_without : (places : List ℕ) → get nat_eq tree.families target.atom_family ≡ None → places ≡ tree.general.items → Finds tree target places
+  pub finds_without : (places : List ℕ) → get nat_eq tree.families target.atom_family ≡ None → places ≡ tree.general.items → FindsPlaces tree target places
   finds_without places none places_are fits_all place h compatible = let P : List ℕ → Type 0 = λ xs. Contains xs place in subst P (sym places_are) h
   finds_without places none places_are (of_family f parts) place (first, first_is, reaches, few) compatible =
       let parts_of = both (nat_eq f target.atom_family) (all_allow parts target.atom_args) compatible in

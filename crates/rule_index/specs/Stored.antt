@@ -6,14 +6,14 @@ use Rattle.rule_index.specs.declared.key.Key.{Key}
 use Rattle.rule_index.specs.declared.key.Key.TheVariants as keys
 use Rattle.rule_index.specs.declared.key.Demand.{Demand}
 use Rattle.rule_index.specs.declared.key.Demand.TheVariants.{Anything, Constant, Variable}
-use Rattle.rule_index.specs.declared.index.Entry.{Entry}
+use Rattle.rule_index.specs.declared.index.IndexedRule.{IndexedRule}
 use Rattle.rule_index.specs.Keys.{RuleKey, fits_all, of_family, KeyedRule}
 
 abbrev pub stored_key : Key → RuleKey
 stored_key keys.All = fits_all
 stored_key (keys.Family f constants) = of_family f constants.items
 
-abbrev pub keyed : Entry → KeyedRule
+abbrev pub keyed : IndexedRule → KeyedRule
 keyed entry = record { key = stored_key entry.key; number = entry.number }
 
 abbrev pub target_atom : Atom → LfAtom

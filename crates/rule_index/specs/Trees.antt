@@ -4,7 +4,7 @@ use Rattle.indexmap.specs.IndexMap.{get}
 use Rattle.lf_definitions.specs.Syntax.{Spine, LfAtom}
 use Rattle.rule_index.specs.declared.key.Demand.{Demand}
 use Rattle.rule_index.specs.declared.node.Node.{Node}
-use Rattle.rule_index.specs.declared.tree.Tree.{Tree}
+use Rattle.rule_index.specs.declared.tree.KeyTree.{KeyTree}
 use Rattle.rule_index.specs.Keys.{RuleKey, fits_all, of_family, KeyedRule, all_allow, is_compatible}
 use Rattle.rule_index.specs.Stored.{meets, args_from}
 
@@ -19,7 +19,7 @@ pub record NodeGrows (old new : Node) : Type 0 where
   pub branches : (part : Option ℕ) (child : ℕ) → branch_of old part ≡ Some child → branch_of new part ≡ Some child
 
 -- The node of this number has the place.
-pub record HasPlace (nodes : List Node) (number place : ℕ) : Type 0 where
+pub record HoldsPlace (nodes : List Node) (number place : ℕ) : Type 0 where
   pub node : Node
   pub node_is : slice_get nodes number ≡ Some node
   pub has : Contains node.places.items place
@@ -32,12 +32,12 @@ pub record Leads (nodes : List Node) (number : ℕ) (part : Option ℕ) (child :
 
 -- The parts of a key lead from a node to one that has the place.
 abbrev pub Reaches : List Node → (place number : ℕ) → List (Option ℕ) → Type 0
-Reaches nodes place number [] = HasPlace nodes number place
+Reaches nodes place number [] = HoldsPlace nodes number place
 Reaches nodes place number (part ∷ parts) = (child : ℕ) × Leads nodes number part child × Reaches nodes place child parts
 
 -- The nodes keep their places and branches.
 pub record NodesGrow (old new : List Node) : Type 0 where
-  pub places : (number place : ℕ) → HasPlace old number place → HasPlace new number place
+  pub places : (number place : ℕ) → HoldsPlace old number place → HoldsPlace new number place
   pub leads : (number : ℕ) (part : Option ℕ) (child : ℕ) → Leads old number part child → Leads new number part child
   pub longer : length old ≤ length new
 
@@ -46,29 +46,29 @@ abbrev pub BringsWithin : Node → Node → ℕ → Type 0
 BringsWithin old new bound = (part : Option ℕ) (child : ℕ) → branch_of new part ≡ Some child → (branch_of old part ≡ Some child) ⊎ (child < bound)
 
 -- Each branch is the number of a node.
-abbrev pub AreClosed : List Node → Type 0
-AreClosed nodes = (number : ℕ) (part : Option ℕ) (child : ℕ) → Leads nodes number part child → child < length nodes
+abbrev pub BranchesAreNodes : List Node → Type 0
+BranchesAreNodes nodes = (number : ℕ) (part : Option ℕ) (child : ℕ) → Leads nodes number part child → child < length nodes
 
 -- In a tree each branch is the number of a node, and so is the root of each family.
-pub record IsClosed (tree : Tree) : Type 0 where
-  pub branches : AreClosed tree.nodes.items
+pub record IsClosed (tree : KeyTree) : Type 0 where
+  pub branches : BranchesAreNodes tree.nodes.items
   pub roots : (f root : ℕ) → get nat_eq tree.families f ≡ Some root → root < length tree.nodes.items
 
 -- The tree keeps what it holds.
-pub record TreeGrows (old new : Tree) : Type 0 where
+pub record TreeGrows (old new : KeyTree) : Type 0 where
   pub general : (place : ℕ) → Contains old.general.items place → Contains new.general.items place
   pub families : (f root : ℕ) → get nat_eq old.families f ≡ Some root → get nat_eq new.families f ≡ Some root
   pub nodes : NodesGrow old.nodes.items new.nodes.items
   pub levels : old.levels ≤ new.levels
 
 -- The tree has the place under the key.
-abbrev pub Holds : Tree → RuleKey → ℕ → Type 0
+abbrev pub Holds : KeyTree → RuleKey → ℕ → Type 0
 Holds tree fits_all place = Contains tree.general.items place
 Holds tree (of_family f parts) place =
     (root : ℕ) × (get nat_eq tree.families f ≡ Some root) × Reaches tree.nodes.items place root parts × (length parts < tree.levels)
 
 -- The tree has the place of each rule under its key.
-pub record HoldsRules (tree : Tree) (rules : List KeyedRule) : Type 0 where
+pub record HoldsRules (tree : KeyTree) (rules : List KeyedRule) : Type 0 where
   pub closed : IsClosed tree
   pub holds : (place : ℕ) (rule : KeyedRule) → slice_get rules place ≡ Some rule → Holds tree rule.key place
 
@@ -80,7 +80,7 @@ pub record AddsBranches (node : Node) (demand : Demand) (old new : List ℕ) : T
 -- From the nodes of these numbers, their places and the branches that meet the demand were added.
 pub record PassesLevel (nodes : List Node) (numbers : List ℕ) (count : ℕ) (demand : Demand) (old places next : List ℕ) : Type 0 where
   pub keeps : (place : ℕ) → Contains old place → Contains places place
-  pub finds : (i number place : ℕ) → i < count → slice_get numbers i ≡ Some number → HasPlace nodes number place → Contains places place
+  pub finds : (i number place : ℕ) → i < count → slice_get numbers i ≡ Some number → HoldsPlace nodes number place → Contains places place
   pub adds : (i number child : ℕ) (part : Option ℕ) → i < count → slice_get numbers i ≡ Some number → Leads nodes number part child →
       meets part demand ≡ true → Contains next child
 
@@ -94,13 +94,13 @@ pub record IsAhead (nodes : List Node) (numbers : List ℕ) (args : Spine) (argu
   pub few : argument + length parts < levels
 
 -- The places under the keys that the target's arguments allow were added.
-pub record Walks (nodes : List Node) (root : ℕ) (args : Spine) (levels : ℕ) (old new : List ℕ) : Type 0 where
+pub record WalksBranches (nodes : List Node) (root : ℕ) (args : Spine) (levels : ℕ) (old new : List ℕ) : Type 0 where
   pub keeps : (place : ℕ) → Contains old place → Contains new place
   pub finds : (place : ℕ) (parts : List (Option ℕ)) → Reaches nodes place root parts → all_allow parts args ≡ true → length parts < levels → Contains new place
 
 -- Each place that the tree has under a key that is compatible with the target is among the places.
-abbrev pub Finds : Tree → LfAtom → List ℕ → Type 0
-Finds tree target places = (key : RuleKey) (place : ℕ) → Holds tree key place → is_compatible key target ≡ true → Contains places place
+abbrev pub FindsPlaces : KeyTree → LfAtom → List ℕ → Type 0
+FindsPlaces tree target places = (key : RuleKey) (place : ℕ) → Holds tree key place → is_compatible key target ≡ true → Contains places place
 
 -- The places of all rules that are compatible with the target are among the places.
 abbrev pub HasCompatible : List KeyedRule → LfAtom → List ℕ → Type 0

@@ -7,7 +7,7 @@ ghost use Rattle.rule_index.specs.Stored.{stored_key, keyed, target_atom};
 ghost use Rattle.rule_index.specs.Trees.{HasCompatible};
 
 use crate::key::{Key, is_compatible, key_of};
-use crate::tree::Tree;
+use crate::tree::KeyTree;
 use basics::{Ids, NoMemory};
 use lf_terms::{Atom, Signature};
 use rule_sets::{Ordered, RuleBook};
@@ -17,13 +17,13 @@ use std::marker::Model;
 /// Rules with their keys, in the order in which they are tried. A contract sees the list of them.
 #[derive(Drop)]
 pub struct Index {
-    entries: Vec<Entry>,
-    tree: Tree,
+    entries: Vec<IndexedRule>,
+    tree: KeyTree,
 }
 
 // A rule, by its number, with its key.
 #[derive(Drop)]
-struct Entry {
+struct IndexedRule {
     key: Key,
     number: u32,
 }
@@ -65,7 +65,7 @@ impl Index {
     {
         Index {
             entries: Vec::new(alloc),
-            tree: Tree::new(alloc),
+            tree: KeyTree::new(alloc),
         }
     }
 
@@ -74,7 +74,7 @@ impl Index {
         ensures { OnOk result (self.new ≡ self.old ++ record { key = stored_key key; number = number } ∷ []) }
     {
         self.tree.add(alloc, &key, self.entries.len())?;
-        self.entries.push(Entry { key, number })?;
+        self.entries.push(IndexedRule { key, number })?;
         Ok(())
     }
 
@@ -90,7 +90,12 @@ impl Index {
 
 // The numbers of the rules that are compatible with a target, where the places of all of them are given
 // in rising order.
-fn pick(alloc: Global, entries: &[Entry], places: &[usize], target: &Atom) -> Result<Ids, NoMemory>
+fn pick(
+    alloc: Global,
+    entries: &[IndexedRule],
+    places: &[usize],
+    target: &Atom,
+) -> Result<Ids, NoMemory>
     requires sorted { IsSorted nat_cmp places.now }
     requires all { HasCompatible (map keyed entries.now) (target_atom target.now) places.now }
     ensures { IfOk result (λ numbers. numbers ≡ compatible_rules (map keyed entries.now) (target_atom target.now)) }

@@ -3,7 +3,7 @@
 ghost use Rattle.std.specs.Prelude.{◌≡◌, ◌<◌, ◌+◌, ◌++◌, ℕ, [], length, None, Some, IfOk, OnOk, Contains};
 ghost use Rattle.std.specs.Option.{option_to_list};
 ghost use Rattle.indexmap.specs.IndexMap.{values};
-ghost use Rattle.rule_index.specs.Trees.{branch_of, NodeGrows, HasPlace, Leads, Reaches, NodesGrow, AddsBranches, BringsWithin, AreClosed};
+ghost use Rattle.rule_index.specs.Trees.{branch_of, NodeGrows, HoldsPlace, Leads, Reaches, NodesGrow, AddsBranches, BringsWithin, BranchesAreNodes};
 
 use crate::key::Demand;
 use basics::NoMemory;
@@ -110,9 +110,9 @@ pub(crate) fn insert(
     place: usize,
 ) -> Result<(), NoMemory>
     requires within { root < length nodes.old.items }
-    requires closed { AreClosed nodes.old.items }
+    requires closed { BranchesAreNodes nodes.old.items }
     ensures grows { NodesGrow nodes.old.items nodes.new.items }
-    ensures closed { AreClosed nodes.new.items }
+    ensures closed { BranchesAreNodes nodes.new.items }
     ensures ok { OnOk result (Reaches nodes.new.items place root parts.now) }
 {
     let mut number = root;
@@ -125,10 +125,10 @@ pub(crate) fn insert(
 // Adds a place to the node of a number.
 fn put(nodes: &mut Vec<Node>, number: usize, place: usize) -> Result<(), NoMemory>
     requires within { number < length nodes.old.items }
-    requires closed { AreClosed nodes.old.items }
+    requires closed { BranchesAreNodes nodes.old.items }
     ensures grows { NodesGrow nodes.old.items nodes.new.items }
-    ensures closed { AreClosed nodes.new.items }
-    ensures ok { OnOk result (HasPlace nodes.new.items number place) }
+    ensures closed { BranchesAreNodes nodes.new.items }
+    ensures ok { OnOk result (HoldsPlace nodes.new.items number place) }
 {
     nodes[number].add_place(place)
 }
@@ -141,9 +141,9 @@ fn below(
     part: Option<u32>,
 ) -> Result<usize, NoMemory>
     requires within { number < length nodes.old.items }
-    requires closed { AreClosed nodes.old.items }
+    requires closed { BranchesAreNodes nodes.old.items }
     ensures grows { NodesGrow nodes.old.items nodes.new.items }
-    ensures closed { AreClosed nodes.new.items }
+    ensures closed { BranchesAreNodes nodes.new.items }
     ensures ok { IfOk result (λ child. Leads nodes.new.items number part child) }
 {
     if let Some(child) = nodes[number].branch(part) {

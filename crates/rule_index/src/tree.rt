@@ -4,7 +4,7 @@ ghost use Rattle.std.specs.Prelude.{◌≡◌, Some, IfOk, OnOk, length, nat_eq}
 ghost use Rattle.indexmap.specs.IndexMap.{get};
 ghost use Rattle.lf_terms.specs.Terms.{spine_of};
 ghost use Rattle.rule_index.specs.Stored.{stored_key, target_atom};
-ghost use Rattle.rule_index.specs.Trees.{IsClosed, TreeGrows, Holds, Finds, Walks, PassesLevel};
+ghost use Rattle.rule_index.specs.Trees.{IsClosed, TreeGrows, Holds, FindsPlaces, WalksBranches, PassesLevel};
 
 use crate::key::{Demand, Key, demand_at};
 use crate::node::{Node, insert};
@@ -16,18 +16,18 @@ use std::alloc::Global;
 // The places of the rules that fit all, and for each family the node with which it begins. More levels
 // stand than any key has parts.
 #[derive(Drop)]
-pub(crate) struct Tree {
+pub(crate) struct KeyTree {
     general: Vec<usize>,
     families: IndexMap<u32, usize>,
     nodes: Vec<Node>,
     levels: usize,
 }
 
-impl Tree {
-    pub(crate) fn new(alloc: Global) -> Tree
+impl KeyTree {
+    pub(crate) fn new(alloc: Global) -> KeyTree
         ensures { IsClosed result }
     {
-        Tree {
+        KeyTree {
             general: Vec::new(alloc),
             families: IndexMap::new(alloc),
             nodes: Vec::new(alloc),
@@ -73,7 +73,7 @@ impl Tree {
 
     // The places under all keys that are compatible with a target, in no order.
     pub(crate) fn places(&self, alloc: Global, target: &Atom) -> Result<Vec<usize>, NoMemory>
-        ensures { IfOk result (λ places. Finds self.now (target_atom target.now) places.items) }
+        ensures { IfOk result (λ places. FindsPlaces self.now (target_atom target.now) places.items) }
     {
         let mut places = Vec::from_slice(alloc, self.general.as_slice())?;
         if let Some(root) = self.families.get(&target.family) {
@@ -100,7 +100,7 @@ fn walk(
     levels: usize,
     places: &mut Vec<usize>,
 ) -> Result<(), NoMemory>
-    ensures { OnOk result (Walks nodes.now root (spine_of args.now) levels places.old.items places.new.items) }
+    ensures { OnOk result (WalksBranches nodes.now root (spine_of args.now) levels places.old.items places.new.items) }
 {
     let mut numbers = vec![in alloc; root]?;
     for level in 0..levels {

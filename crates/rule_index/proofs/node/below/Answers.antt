@@ -1,7 +1,7 @@
 use Rattle.std.proofs.Common.{◌≡◌, ◌∷◌, [], ◌++◌, List, ℕ, None, Some, slice_get, slice_index_or, slice_set, refl, sym, ◌∙◌, length, ◌<◌, ◌+◌, ap, subst, arith, length-append}
 use Rattle.std.proofs.lemmas.Option.{slice_get_read}
 use Rattle.rule_index.specs.declared.node.Node.{Node}
-use Rattle.rule_index.specs.Trees.{NodeGrows, NodesGrow, BringsWithin, AreClosed}
+use Rattle.rule_index.specs.Trees.{NodeGrows, NodesGrow, BringsWithin, BranchesAreNodes}
 use Rattle.rule_index.proofs.Nodes.{new_is, nodes_set, nodes_append, nodes_then, closed_set, closed_more}
 use Rattle.rule_index.proofs.node.below.Goals as goal
 
@@ -23,7 +23,7 @@ module _ (nodes more : List Node) (added node new : Node) (i : ℕ) (more_is : m
   grows : NodeGrows node new → NodesGrow nodes (slice_set more i new)
   grows grow = nodes_then nodes more (slice_set more i new) (nodes_append nodes (added ∷ []) more more_is) (nodes_set more i node new node_is grow)
 
-  closed : (child : ℕ) → child ≡ length nodes → added.open_branch ≡ None → added.constants.entries ≡ [] → BringsWithin node new (child + 1) → AreClosed nodes → AreClosed (slice_set more i new)
+  closed : (child : ℕ) → child ≡ length nodes → added.open_branch ≡ None → added.constants.entries ≡ [] → BringsWithin node new (child + 1) → BranchesAreNodes nodes → BranchesAreNodes (slice_set more i new)
   closed child child_is none empty brings before = closed_set more i node new node_is (child + 1) (omega (arith, long, child_is)) brings (closed_more nodes more added more_is none empty before)
 
 pub returns-in_err-add_branch-clause-grows : goal.returns-in_err-add_branch-clause-grows
@@ -53,8 +53,8 @@ returns-clause-ok c =
       branch_is = c.in_ok-add_branch.ensures.ok;
     }
 
-nodes_unchanged : (nodes more : List Node) → more ≡ nodes → AreClosed nodes → AreClosed more
-nodes_unchanged nodes more same before = let P : List Node → Type 0 = AreClosed in subst P (sym same) before
+nodes_unchanged : (nodes more : List Node) → more ≡ nodes → BranchesAreNodes nodes → BranchesAreNodes more
+nodes_unchanged nodes more same before = let P : List Node → Type 0 = BranchesAreNodes in subst P (sym same) before
 
 pub returns-in_err-push-clause-closed : goal.returns-in_err-push-clause-closed
 returns-in_err-push-clause-closed c = nodes_unchanged c.args.nodes.now.items c.push.new.self.items c.in_err-push.ensures.items c.requires.closed

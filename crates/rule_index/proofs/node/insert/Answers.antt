@@ -1,6 +1,6 @@
 use Rattle.std.proofs.Common.{get_or, None}
-use Rattle.rule_index.specs.Trees.{HasPlace, Reaches}
-use Rattle.rule_index.proofs.Nodes.{on_ok, nodes_stay, nodes_then, way_begins, way_goes_on, way_ends}
+use Rattle.std.proofs.lemmas.Result.{on_ok_weaker}
+use Rattle.rule_index.proofs.Nodes.{nodes_stay, nodes_then, way_begins, way_goes_on, way_ends}
 use Rattle.rule_index.proofs.node.insert.Goals as goal
 
 pub loop-part-init : goal.loop-part-init
@@ -23,6 +23,6 @@ returns-clause-grows c = nodes_then c.args.nodes.now.items c.loop-part.nodes.ite
 
 pub returns-clause-ok : goal.returns-clause-ok
 returns-clause-ok c =
-    on_ok c.put.result (HasPlace c.put.new.nodes.items c.loop-part.number c.args.place) (Reaches c.put.new.nodes.items c.args.place c.args.root c.args.parts.now)
+    on_ok_weaker c.put.result
     (way_ends c.loop-part.nodes.items c.put.new.nodes.items c.args.root c.args.parts.now c.args.place c.loop-part.part-index c.loop-part.number c.loop-part.invariant.on_the_way c.loop-part-test.false c.put.ensures.grows)
     c.put.ensures.ok

@@ -1,7 +1,7 @@
-use Rattle.std.proofs.Common.{◌≡◌, Some, length, refl, slice_get, set, Contains, arith}
+use Rattle.std.proofs.Common.{◌≡◌, Some, length, refl, slice_get, arith}
 use Rattle.std.proofs.lemmas.Option.{slice_get_read}
-use Rattle.rule_index.specs.Trees.{HasPlace}
-use Rattle.rule_index.proofs.Nodes.{on_ok, new_is, nodes_set, closed_set, same_branches}
+use Rattle.std.proofs.lemmas.Result.{on_ok_weaker}
+use Rattle.rule_index.proofs.Nodes.{new_is, nodes_set, closed_set, same_branches}
 use Rattle.rule_index.proofs.node.put.Goals as goal
 
 pub returns-clause-grows : goal.returns-clause-grows
@@ -23,5 +23,5 @@ returns-clause-ok c =
     let nodes = c.args.nodes.now.items in
     let new = c.add_place.new.self in
     let node_is : slice_get nodes c.args.number ≡ Some c.index_mut.result.now = slice_get_read nodes (length nodes) c.args.number c.index_mut.result.now refl c.requires.within c.index_mut.ensures.value in
-    on_ok c.add_place.result (Contains new.places.items c.args.place) (HasPlace (set nodes c.args.number new) c.args.number c.args.place)
+    on_ok_weaker c.add_place.result
     (λ has. record { node = new; node_is = new_is nodes c.args.number c.index_mut.result.now new node_is; has = has }) c.add_place.ensures.ok

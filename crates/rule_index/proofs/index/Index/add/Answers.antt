@@ -1,6 +1,6 @@
 use Rattle.std.proofs.Common.{map, ap, sym, subst, ◌∙◌, List}
 use Rattle.std.proofs.lemmas.List.{length-map, map-append}
-use Rattle.rule_index.specs.declared.index.Entry.{Entry}
+use Rattle.rule_index.specs.declared.index.IndexedRule.{IndexedRule}
 use Rattle.rule_index.specs.Stored.{keyed, stored_key}
 use Rattle.rule_index.specs.Trees.{HoldsRules}
 use Rattle.rule_index.proofs.Trees.{rules_later, rules_more}
@@ -11,7 +11,7 @@ invariant_of-self c = rules_later c.self.inside.tree c.add.new.self (map keyed c
 
 pub invariant_of-self-in_err-push : goal.invariant_of-self-in_err-push
 invariant_of-self-in_err-push c =
-    let P : List Entry → Type 0 = λ es. HoldsRules c.add.new.self (map keyed es) in
+    let P : List IndexedRule → Type 0 = λ es. HoldsRules c.add.new.self (map keyed es) in
     subst P (sym c.in_err-push.ensures.items) (rules_later c.self.inside.tree c.add.new.self (map keyed c.self.inside.entries.items) c.add.ensures.grows c.add.ensures.closed c.self.invariant)
 
 pub invariant_of-self-2 : goal.invariant_of-self-2

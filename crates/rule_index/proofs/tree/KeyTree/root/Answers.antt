@@ -2,7 +2,7 @@ use Rattle.std.proofs.Common.{◌∷◌, [], le_refl, arith, refl, ◌∙◌}
 use Rattle.std.proofs.lemmas.Grind.{common_steps}
 use Rattle.rule_index.proofs.Nodes.{nodes_append}
 use Rattle.rule_index.proofs.Trees.{closed_still, root_alone, root_of_family}
-use Rattle.rule_index.proofs.tree.Tree.root.Goals as goal
+use Rattle.rule_index.proofs.tree.KeyTree.root.Goals as goal
 
 pub returns-in_err-insert-clause-grows : goal.returns-in_err-insert-clause-grows
 returns-in_err-insert-clause-grows c = record {

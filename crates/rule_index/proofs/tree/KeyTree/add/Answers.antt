@@ -1,7 +1,7 @@
 use Rattle.std.proofs.Common.{arith, refl}
 use Rattle.rule_index.proofs.Nodes.{nodes_then}
 use Rattle.rule_index.proofs.Trees.{closed_longer}
-use Rattle.rule_index.proofs.tree.Tree.add.Goals as goal
+use Rattle.rule_index.proofs.tree.KeyTree.add.Goals as goal
 
 pub returns-in_ok-root-in-Family-clause-grows : goal.returns-in_ok-root-in-Family-clause-grows
 returns-in_ok-root-in-Family-clause-grows c = record {
