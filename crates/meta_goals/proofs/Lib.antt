@@ -1,0 +1,9 @@
+pub mod BindingTables
+pub mod BodyFacts
+pub mod BindingLaws
+pub mod ChangedTerms
+pub mod ChangedTypes
+pub mod LeftGoals
+pub mod Mentioning
+pub mod NumberPlaces
+pub mod Renumbered
