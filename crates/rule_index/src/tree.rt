@@ -104,6 +104,9 @@ fn walk(
 {
     let mut numbers = vec![in alloc; root]?;
     for level in 0..levels {
+        if numbers.is_empty() {
+            return Ok(());
+        }
         numbers = pass(
             alloc,
             nodes,
