@@ -17,9 +17,9 @@ use Rattle.head_laws.specs.Mentions.{ComesFrom, comes_from_head, comes_from_term
 use Rattle.head_laws.proofs.Occurrence.{came_spine}
 use Rattle.head_laws.proofs.Replacing.{mentioned_type}
 use Rattle.typing_laws.specs.EtaLaws.{expanded}
-use Rattle.opening_laws.specs.Openings.{context_variable, keeping, AreKept, fixed_to, fresh_goal, kept_variables, IsOpenedFrom, opens_conclusion, opens_fixed, opens_fresh}
+use Rattle.opening_laws.specs.Openings.{returning, context_variable, keeping, AreKept, fixed_to, fresh_goal, kept_variables, IsOpenedFrom, opens_conclusion, opens_fixed, opens_fresh}
 use Rattle.opening_laws.specs.Conditions.{is_dropped, is_fixed_to_dropped, is_barred, MentionsNone}
-use Rattle.opening_laws.proofs.Kept.{returning, keeping_type, is_dropped-keeping, is_dropped-metavariable, is_dropped-context_variable}
+use Rattle.opening_laws.proofs.Kept.{keeping_type, is_dropped-keeping, is_dropped-metavariable, is_dropped-context_variable}
 use Rattle.opening_laws.proofs.Expanded.{head_of_eta, heads_of_expanded}
 use Rattle.opening_laws.proofs.Shapes.{EachArgument, AllShapes, shaped_fresh_term, FitsHypothesis, HasGoalShape, shaped_fixed_term, shape_of-fresh_goal}
 use Rattle.opening_laws.proofs.Numbers.{Numbered}

@@ -12,13 +12,8 @@ use Rattle.lf_definitions.proofs.Unrenaming.{ShapedType-unrenamed}
 use Rattle.lf_definitions.proofs.Telescopes.{next_by-bound, under_all-next_by_length}
 use Rattle.head_laws.proofs.Heads.{lifted-next}
 use Rattle.head_laws.proofs.Occurrence.{rename_type-agree}
-use Rattle.opening_laws.specs.Openings.{context_variable, is_kept, keeping, AreKept, kept_nothing, kept_entry, dropped_entry}
+use Rattle.opening_laws.specs.Openings.{context_variable, is_kept, keeping, returning, AreKept, kept_nothing, kept_entry, dropped_entry}
 use Rattle.opening_laws.specs.Conditions.{is_dropped, MentionsNone}
-
--- the way back, where a dropped variable becomes some other head
-abbrev pub returning : List ℕ → ℕ → Renaming
-returning kept zero = λ h. h
-returning kept (suc place) = if is_kept kept place then lifted (returning kept place) else extended (bound zero) (returning kept place)
 
 pub returning-keeping : (kept : List ℕ) (n : ℕ) (h : LfHead) → returning kept n (keeping kept n h) ≡ h
 returning-keeping kept zero h = refl

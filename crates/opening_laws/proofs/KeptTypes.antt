@@ -12,9 +12,9 @@ use Rattle.lf_definitions.proofs.Weakening.{Formed-rename}
 use Rattle.lf_definitions.proofs.Options.{Some-Some}
 use Rattle.head_laws.proofs.Occurrence.{came_type}
 use Rattle.head_laws.proofs.LookupLaws.{typing_looks_up_what_occurs}
-use Rattle.opening_laws.specs.Openings.{is_kept, keeping, AreKept, kept_nothing, kept_entry, dropped_entry}
+use Rattle.opening_laws.specs.Openings.{returning, is_kept, keeping, AreKept, kept_nothing, kept_entry, dropped_entry}
 use Rattle.opening_laws.specs.Conditions.{is_dropped}
-use Rattle.opening_laws.proofs.Kept.{returning, keeping-returning, keeping-bound, keeping-constant, keeping-metavariable, returning-bound, returning-constant, returning-metavariable, returning_type, is_dropped-keeping, is_dropped-constant, is_dropped-metavariable, shifted}
+use Rattle.opening_laws.proofs.Kept.{keeping-returning, keeping-bound, keeping-constant, keeping-metavariable, returning-bound, returning-constant, returning-metavariable, returning_type, is_dropped-keeping, is_dropped-constant, is_dropped-metavariable, shifted}
 
 -- Each variable has, where it is seen, its type as it is seen from there.
 abbrev pub SeesTypes : Renaming → Typing → Typing → Type 0

@@ -2,7 +2,7 @@
 use Rattle.std.specs.Prelude.{◌≡◌, ℕ, zero, suc, ◌-◌, Bool, true, false, if◌then◌else◌, nat_eq, List, [], ◌∷◌, ◌++◌, map, length, Option, Some, None}
 use Rattle.std.specs.List.{list_any}
 use Rattle.lf_definitions.specs.Syntax.{LfHead, bound, metavariable, Spine, no_args, arg, base, arrows, LfType, pi, family, LfAtom, Context, shape_of, shapes_of_types, binders_of, conclusion_atom}
-use Rattle.lf_definitions.specs.Renaming.{next, Renaming, lifted, rename_spine, rename_type}
+use Rattle.lf_definitions.specs.Renaming.{next, extended, Renaming, lifted, rename_spine, rename_type}
 use Rattle.lf_definitions.specs.Substitution.{stays, Replacement, push, SubstitutedSpine, SubstitutedType}
 use Rattle.lf_definitions.specs.Expansion.{own_variables, eta}
 use Rattle.lf_definitions.specs.Typing.{LfGoal}
@@ -21,6 +21,11 @@ is_kept kept place = list_any (nat_eq place) kept
 abbrev pub keeping : List ℕ → ℕ → Renaming
 keeping kept zero = λ h. h
 keeping kept (suc place) = if is_kept kept place then lifted (keeping kept place) else (λ h. next (keeping kept place h))
+
+-- The way back, where a dropped variable becomes some other head.
+abbrev pub returning : List ℕ → ℕ → Renaming
+returning kept zero = λ h. h
+returning kept (suc place) = if is_kept kept place then lifted (returning kept place) else extended (bound zero) (returning kept place)
 
 -- The entries at the kept places by themselves, from a place on: each, seen from the whole context, is the entry there.
 pub data AreKept (kept : List ℕ) : ℕ → Context → Context → Type 0 where

@@ -1,0 +1,11 @@
+pub mod OpenedTypes
+pub mod RenamedParts
+pub mod RenamedOpenings
+pub mod RenamedTests
+pub mod RenamedHypotheses
+pub mod RenamedCandidates
+pub mod RenamedCompletions
+pub mod RenamedApplications
+pub mod Pairs
+pub mod DifferentPlaces
+pub mod Labels

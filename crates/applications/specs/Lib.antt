@@ -1,0 +1,5 @@
+pub mod OpenedTypes
+pub mod Methods
+pub mod Candidates
+pub mod Applications
+pub mod Laws
