@@ -13,7 +13,7 @@ use Rattle.unification.specs.Equations.{Ending, solved, refused}
 use Rattle.lf_functions.specs.Endings.{unifier_of}
 use Rattle.applications.specs.Methods.{Method, applies, constructs, splits, goes_forward, takes_apart, assumes, uses_hypotheses, LfLabel, LfCandidate}
 use Rattle.applications.specs.Candidates.{places_of, premises_from, LfHypothesis, hypotheses_of, are_atomic, have_binders, backward, where_some, each, constructed, by_hypothesis, without, split, tuples, onward, candidates}
-use Rattle.applications.specs.Applications.{LfApplication, freezing, Completion, completion, whole_assignment, goals_left, entries_are_typed, counted, completed, application_of, with_some, of_candidates, applications_to}
+use Rattle.applications.specs.Applications.{LfApplication, freezing, Completion, completion, whole_assignment, goals_left, entries_are_typed, where_typed, completed, application_of, with_some, of_candidates, applications_to}
 use Rattle.applications.specs.Laws.{IsAnotherLabel, labels_of, LabelsDiffer}
 use Rattle.applications.proofs.Pairs.{one_pair, no_pair, AllPairs-map, everywhere}
 use Rattle.applications.proofs.DifferentPlaces.{first_number, HasAnotherPlace, places_differ, AllPairs-are_atomic, AllPairs-have_binders, tuple_places, HasOtherPlaces, tuples_differ}
@@ -138,7 +138,7 @@ HasLabel label None = Unit {0}
 HasLabel label (Some a) = a.label ≡ label
 
 module _ (sig : LfSignature) (n : ℕ) (goals : List LfGoal) (g : LfGoal) where
-  counted_label : (c : LfCandidate) (entries : List LfAssigned) (o : Option Completion) → HasLabel c.label (counted sig goals g c entries o)
+  counted_label : (c : LfCandidate) (entries : List LfAssigned) (o : Option Completion) → HasLabel c.label (where_typed sig goals g c entries o)
   counted_label c entries None = tt
   counted_label c entries (Some done) =
       let all = goals ++ c.opened.fresh in

@@ -25,7 +25,7 @@ use Rattle.lf_functions.proofs.CheckingLaws.{has_type_is_renamed}
 use Rattle.lf_functions.proofs.EndingLaws.{unifiers_are_renamed, entries_are_renamed}
 use Rattle.applications.specs.Methods.{Method, LfLabel, LfCandidate}
 use Rattle.applications.specs.Candidates.{candidates}
-use Rattle.applications.specs.Applications.{LfApplication, freezing, Completion, completion, entry_of, put_into, whole_assignment, goals_left, fresh_left, is_typed_entry, entries_are_typed, entries_among, counted, completed, application_of, with_some, of_candidates, applications_to, at_first}
+use Rattle.applications.specs.Applications.{LfApplication, freezing, Completion, completion, entry_of, put_into, whole_assignment, goals_left, fresh_left, is_typed_entry, entries_are_typed, entries_among, where_typed, completed, application_of, with_some, of_candidates, applications_to, at_first}
 use Rattle.applications.specs.Laws.{TakesNumbersFrom, rename_candidate, rename_application, ApplicationsAreRenamed}
 use Rattle.applications.proofs.RenamedCandidates.{candidates_are_renamed}
 use Rattle.applications.proofs.RenamedCompletions.{where_true, rename_completion, is_among-renamed, freezing-renamed, is_assigned-renamed, completion-renamed}
@@ -166,10 +166,10 @@ module _ (ρ : ℕ → ℕ) (injective : IsInjective ρ) where
     all_there_is : map (rename_goal ρ) goals ++ map (rename_goal ρ) c.opened.fresh ≡ map (rename_goal ρ) all_here
     all_there_is = sym (map-append (rename_goal ρ) goals c.opened.fresh)
 
-    counted-renamed : (entries : List LfAssigned) (o : Option Completion) →
-        Renamed (counted sig (map (rename_goal ρ) goals) (rename_goal ρ g) (rename_candidate ρ c) (map (rename_entry ρ) entries) (option_map (rename_completion ρ) o)) (counted sig goals g c entries o)
-    counted-renamed entries None = refl
-    counted-renamed entries (Some done) =
+    where_typed-renamed : (entries : List LfAssigned) (o : Option Completion) →
+        Renamed (where_typed sig (map (rename_goal ρ) goals) (rename_goal ρ g) (rename_candidate ρ c) (map (rename_entry ρ) entries) (option_map (rename_completion ρ) o)) (where_typed sig goals g c entries o)
+    where_typed-renamed entries None = refl
+    where_typed-renamed entries (Some done) =
         let other_goals = map (rename_goal ρ) goals in
         let body = rename (metavariables ρ) done.becomes_term in
         let more = map (rename_goal ρ) done.more in
@@ -188,11 +188,11 @@ module _ (ρ : ℕ → ℕ) (injective : IsInjective ρ) where
       completed-renamed : (end : Ending) → Renamed (completed sig m (map (rename_goal ρ) goals) (rename_goal ρ g) (rename_candidate ρ c) (rename_ending ρ end)) (completed sig n goals g c end)
       completed-renamed (refused reason) = refl
       completed-renamed (solved entries) =
-          let counts : Option Completion → Option LfApplication = counted sig (map (rename_goal ρ) goals) (rename_goal ρ g) (rename_candidate ρ c) (map (rename_entry ρ) entries) in
+          let counts : Option Completion → Option LfApplication = where_typed sig (map (rename_goal ρ) goals) (rename_goal ρ g) (rename_candidate ρ c) (map (rename_entry ρ) entries) in
           let τ = assignment_of (map (rename_entry ρ) entries) in
           ap (λ all. counts (completion m all (rename_goal ρ g) (rename_candidate ρ c) τ c.outcome)) all_there_is
           ∙ ap counts (completion-renamed ρ injective (assignment_of entries) τ (entries_are_renamed ρ injective entries) n m takes all_here g c c.outcome)
-          ∙ counted-renamed entries (completion n all_here g c (assignment_of entries) c.outcome)
+          ∙ where_typed-renamed entries (completion n all_here g c (assignment_of entries) c.outcome)
 
       application_of-renamed : Renamed (application_of sig m (map (rename_goal ρ) goals) (rename_goal ρ g) (rename_candidate ρ c)) (application_of sig n goals g c)
       application_of-renamed =

@@ -10,7 +10,7 @@ use Rattle.lf_definitions.proofs.TypedSpines.{length-rename_context}
 use Rattle.head_laws.specs.Mentions.{occurs_in_type}
 use Rattle.head_laws.proofs.Metavariables.{lifted-metavariables}
 use Rattle.opening_laws.specs.Openings.{context_variable}
-use Rattle.applications.specs.Candidates.{numbers_from, places_of, LfHypothesis, hypotheses_from, hypotheses_of, are_atomic, have_binders, is_atomic, each, mentioned_by_others, tuples, paired}
+use Rattle.applications.specs.Candidates.{counting_from, places_of, LfHypothesis, hypotheses_from, hypotheses_of, are_atomic, have_binders, is_atomic, each, mentioned_by_others, tuples, paired}
 use Rattle.applications.proofs.RenamedParts.{next_by-along, rename_type-along}
 use Rattle.applications.proofs.RenamedTests.{is_atomic-rename_type, variable_in_type}
 
@@ -30,7 +30,7 @@ abbrev hypothesis_at : ℕ → LfType → LfHypothesis
 hypothesis_at place a = record { place = place; type = a }
 
 pub places_of-renamed : (ρ : ℕ → ℕ) (ctx : Context) → places_of (rename_context (metavariables ρ) ctx) ≡ places_of ctx
-places_of-renamed ρ ctx = ap (numbers_from 0) (length-rename_context (metavariables ρ) ctx)
+places_of-renamed ρ ctx = ap (counting_from 0) (length-rename_context (metavariables ρ) ctx)
 
 module _ (ρ : ℕ → ℕ) where
   hypotheses_from-renamed : (ctx : Context) (place : ℕ) → hypotheses_from place (rename_context (metavariables ρ) ctx) ≡ map (rename_hypothesis ρ) (hypotheses_from place ctx)

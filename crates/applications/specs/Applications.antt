@@ -112,9 +112,9 @@ entries_among numbers [] = []
 entries_among numbers (e ∷ rest) = if list_any (nat_eq e.assigned_goal) numbers then e ∷ entries_among numbers rest else entries_among numbers rest
 
 -- A candidate counts where each entry is typed in the list that is left.
-abbrev pub counted : LfSignature → List LfGoal → LfGoal → LfCandidate → List LfAssigned → Option Completion → Option LfApplication
-counted sig goals g c entries None = None
-counted sig goals g c entries (Some done) =
+abbrev pub where_typed : LfSignature → List LfGoal → LfGoal → LfCandidate → List LfAssigned → Option Completion → Option LfApplication
+where_typed sig goals g c entries None = None
+where_typed sig goals g c entries (Some done) =
     let all = goals ++ c.opened.fresh in
     let whole = whole_assignment all g done.becomes_term entries in
     let σ = assignment_of whole in
@@ -131,7 +131,7 @@ counted sig goals g c entries (Some done) =
 
 abbrev pub completed : LfSignature → ℕ → List LfGoal → LfGoal → LfCandidate → Ending → Option LfApplication
 completed sig n goals g c (refused reason) = None
-completed sig n goals g c (solved entries) = counted sig goals g c entries (completion n (goals ++ c.opened.fresh) g c (assignment_of entries) c.outcome)
+completed sig n goals g c (solved entries) = where_typed sig goals g c entries (completion n (goals ++ c.opened.fresh) g c (assignment_of entries) c.outcome)
 
 -- what comes of a candidate, if it counts
 abbrev pub application_of : LfSignature → ℕ → List LfGoal → LfGoal → LfCandidate → Option LfApplication

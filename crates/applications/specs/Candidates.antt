@@ -12,13 +12,13 @@ use Rattle.applications.specs.OpenedTypes.{opening_of}
 use Rattle.applications.specs.Methods.{Method, applies, constructs, splits, goes_forward, takes_apart, assumes, uses_hypotheses, LfLabel, closes, adds, LfCandidate}
 
 -- the numbers below another, the least first
-abbrev pub numbers_from : ℕ → ℕ → List ℕ
-numbers_from n zero = []
-numbers_from n (suc count) = n ∷ numbers_from (suc n) count
+abbrev pub counting_from : ℕ → ℕ → List ℕ
+counting_from n zero = []
+counting_from n (suc count) = n ∷ counting_from (suc n) count
 
 -- the places of a context
 abbrev pub places_of : Context → List ℕ
-places_of ctx = numbers_from 0 (length ctx)
+places_of ctx = counting_from 0 (length ctx)
 
 -- For each binder of a type, whether it is a premise: it occurs in no later binder and not in the conclusion.
 abbrev pub premise_marks : LfType → List Bool
