@@ -1,0 +1,12 @@
+mod Ends
+mod Lookups
+mod Instances
+mod Steps
+mod Passing
+mod Settling
+mod Mentioned
+mod Solvable
+mod Filling
+mod Answering
+mod Walking
+mod Problems

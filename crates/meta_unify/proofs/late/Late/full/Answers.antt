@@ -1,0 +1,28 @@
+use Rattle.std.proofs.Common.{sym, ◌∙◌}
+use Rattle.lf_terms.specs.Terms.{term_of}
+use Rattle.meta_unify.proofs.Filling.{filling_begins, filling_goes_on, filling_instantiates, is_full, fills}
+use Rattle.meta_unify.proofs.late.Late.full.Goals as goal
+
+pub loop-init : goal.loop-init
+loop-init c = filling_begins c.args.self.now (term_of c.args.term.now) (term_of c.in_ok-result.result) c.in_ok-result.ensures
+
+pub loop-preserved : goal.loop-preserved
+loop-preserved c =
+    filling_goes_on c.args.self.now c.self.inside.assign (term_of c.args.term.now) (term_of c.loop.result) (term_of c.in_ok-result-2.result) c.self.view_is c.loop.invariant c.in_ok-result-2.ensures.result
+
+pub instantiate-requires : goal.instantiate-requires
+instantiate-requires c = filling_instantiates c.args.self.now c.self.inside.assign (term_of c.args.term.now) (term_of c.loop.result) c.self.view_is c.requires c.loop.invariant
+
+pub returns-then-not-mentions-clause-full : goal.returns-then-not-mentions-clause-full
+returns-then-not-mentions-clause-full c = is_full c.args.self.now c.self.inside.assign (term_of c.loop.result) c.self.view_is (sym c.mentions.ensures ∙ c.if-not-mentions.true)
+
+pub returns-then-not-mentions-clause-instance : goal.returns-then-not-mentions-clause-instance
+returns-then-not-mentions-clause-instance c =
+    fills c.args.self.now (term_of c.args.term.now) (term_of c.loop.result) c.loop.invariant (is_full c.args.self.now c.self.inside.assign (term_of c.loop.result) c.self.view_is (sym c.mentions.ensures ∙ c.if-not-mentions.true))
+
+pub returns-clause-full : goal.returns-clause-full
+returns-clause-full c = is_full c.args.self.now c.self.inside.assign (term_of c.loop.result) c.self.view_is (sym c.mentions-2.ensures ∙ c.if-mentions.false)
+
+pub returns-clause-instance : goal.returns-clause-instance
+returns-clause-instance c =
+    fills c.args.self.now (term_of c.args.term.now) (term_of c.loop.result) c.loop.invariant (is_full c.args.self.now c.self.inside.assign (term_of c.loop.result) c.self.view_is (sym c.mentions-2.ensures ∙ c.if-mentions.false))

@@ -1,0 +1,6 @@
+use Rattle.lf_terms.specs.Terms.{term_of}
+use Rattle.meta_unify.proofs.Filling.{IsFilling}
+use Rattle.meta_unify.proofs.late.Late.full.Given as goal
+
+abbrev pub invariant-loop : goal.invariant-loop
+invariant-loop l = IsFilling l.self (term_of l.term) (term_of l.result)
