@@ -1,0 +1,13 @@
+pub mod Lists
+pub mod Hypotheses
+pub mod Arguments
+pub mod Usable
+pub mod Onward
+pub mod Dropping
+pub mod Members
+pub mod NewNumbers
+pub mod Counted
+pub mod GoalMentions
+pub mod Support
+pub mod Inside
+pub mod Laws
