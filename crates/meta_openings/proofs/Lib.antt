@@ -1,0 +1,9 @@
+mod Copies
+mod Counts
+mod Renamed
+mod EachEntry
+mod EachVariable
+mod Tables
+mod NextArgument
+mod FreshGoals
+mod Whole

@@ -1,0 +1,15 @@
+//! Opening a type in a context: a term for each of its arguments, and a fresh goal for each argument that isn't fixed to a hypothesis.
+//! `lf_terms` and the laws of opening stand below.
+//! Proved: the result is the one that the definition gives.
+#![tactic(auto)]
+
+mod arguments;
+mod entries;
+mod fresh;
+mod lists;
+pub mod open;
+mod places;
+mod renaming;
+mod variables;
+
+pub use open::{Opened, open_args};
