@@ -15,6 +15,7 @@ use Rattle.lf_terms.proofs.subst.+put_in_type.Goals as goal
 pub put_in_type-requires : goal.put_in_type-requires
 put_in_type-requires t c =
     let a = c.args in
+    let images = a.images.now in
     let ty = a.ty.now in
     let items = c.as_slice-items.result.now in
     let x = c.index-items-i.result in (
@@ -25,40 +26,44 @@ put_in_type-requires t c =
         ap types_size c.as_slice-items.ensures,
         item_size items c.loop-i.i x c.loop-i-test.true c.index-items-i.is,
       ),
-      puts_here (spine_of a.sub.now) (simple_types_of a.shapes.now) a.by a.depth items c.loop-i.i x (family ty.family ty.args) c.loop-i-test.true c.index-items-i.is
+      puts_here (spine_of images.sub.now) (simple_types_of images.shapes.now) images.by a.depth items c.loop-i.i x (family ty.family ty.args) c.loop-i-test.true c.index-items-i.is
           c.loop-i.invariant.rest,
     )
 
 pub loop-i-preserved : goal.loop-i-preserved
 loop-i-preserved t c =
     let a = c.args in
+    let images = a.images.now in
     let ty = a.ty.now in
     let items = c.as_slice-items.result.now in
     let x = c.index-items-i.result in
     record {
       rest =
-          puts_later (spine_of a.sub.now) (simple_types_of a.shapes.now) a.by a.depth items c.loop-i.i x (family ty.family ty.args) c.loop-i-test.true c.index-items-i.is
+          puts_later (spine_of images.sub.now) (simple_types_of images.shapes.now) images.by a.depth items c.loop-i.i x (family ty.family ty.args) c.loop-i-test.true c.index-items-i.is
           c.loop-i.invariant.rest;
       done =
-          binder_put (spine_of a.sub.now) a.by a.depth c.loop-i.i items _ _ x c.in_ok-put_in_type.field-0 c.loop-i-test.true c.index-items-i.is c.in_ok-push.ensures.items
+          binder_put (spine_of images.sub.now) images.by a.depth c.loop-i.i items _ _ x c.in_ok-put_in_type.field-0 c.loop-i-test.true c.index-items-i.is c.in_ok-push.ensures.items
           c.loop-i.invariant.done c.in_ok-put_in_type.ensures;
     }
 
 pub put_in_all-requires : goal.put_in_all-requires
 put_in_all-requires t c =
     let a = c.args in
-    puts_end (spine_of a.sub.now) (simple_types_of a.shapes.now) a.by a.depth c.as_slice-items.result.now c.loop-i.i a.ty.now.family a.ty.now.args (omega arith) c.loop-i.invariant.rest
+    let images = a.images.now in
+    puts_end (spine_of images.sub.now) (simple_types_of images.shapes.now) images.by a.depth c.as_slice-items.result.now c.loop-i.i a.ty.now.family a.ty.now.args (omega arith) c.loop-i.invariant.rest
 
 pub returns : goal.returns
 returns t c =
     let a = c.args in
-    type_put (spine_of a.sub.now) a.by a.depth c.loop-i.i c.as_slice-items.result.now a.ty.now.binders _ _ a.ty.now.family a.ty.now.args c.in_ok-args.args (omega arith)
+    let images = a.images.now in
+    type_put (spine_of images.sub.now) images.by a.depth c.loop-i.i c.as_slice-items.result.now a.ty.now.binders _ _ a.ty.now.family a.ty.now.args c.in_ok-args.args (omega arith)
     c.as_slice-items.ensures c.in_ok-binders-2.ensures c.loop-i.invariant.done c.in_ok-args.ensures
 
 pub returns-then-is_within : goal.returns-then-is_within
 returns-then-is_within t c =
     let a = c.args in
-    let σ = putting (spine_of a.sub.now) a.by a.depth in
+    let images = a.images.now in
+    let σ = putting (spine_of images.sub.now) images.by a.depth in
     IfOk-weaker c.copy.result _ _
-    (λ r same. subst (SubstitutedType σ (type_of a.ty.now)) (sym same) (type_unchanged (spine_of a.sub.now) a.by a.depth (type_of a.ty.now) (c.is_within.ensures c.if-is_within.true)))
+    (λ r same. subst (SubstitutedType σ (type_of a.ty.now)) (sym same) (type_unchanged (spine_of images.sub.now) images.by a.depth (type_of a.ty.now) (c.is_within.ensures c.if-is_within.true)))
     c.copy.ensures

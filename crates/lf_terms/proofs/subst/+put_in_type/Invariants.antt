@@ -13,6 +13,6 @@ decreases-put_in_type l = type_size (type_of l.ty.now)
 abbrev pub invariant-loop-i : goal.invariant-loop-i
 invariant-loop-i l =
     record {
-      rest : Puts (spine_of l.sub) (simple_types_of l.shapes) l.by (l.depth + l.i) (TypeShaped (pis (types_of (drop l.i l.items)) (family l.ty.family l.ty.args)));
-      done : BindersPut (spine_of l.sub) l.by l.depth l.i (types_of (take l.i l.items)) (types_of l.binders.items);
+      rest : Puts (spine_of l.images.sub.now) (simple_types_of l.images.shapes.now) l.images.by (l.depth + l.i) (TypeShaped (pis (types_of (drop l.i l.items)) (family l.ty.family l.ty.args)));
+      done : BindersPut (spine_of l.images.sub.now) l.images.by l.depth l.i (types_of (take l.i l.items)) (types_of l.binders.items);
     }
