@@ -1,7 +1,7 @@
 -- Lists of goals, one by one.
 use Rattle.std.proofs.Common.{◌≡◌, ℕ, zero, suc, ◌+◌, ◌<◌, List, [], ◌∷◌, ◌++◌, length, get_or, take, map, refl, sym, ap, ap₂, ◌∙◌, arith}
 use Rattle.std.proofs.lemmas.List.{map-append, length-map}
-use Rattle.lf_definitions.specs.Syntax.{SimpleType, base, arrows, shape_of, shapes_of_types}
+use Rattle.lf_definitions.specs.Syntax.{base, arrows, shape_of, shapes_of_types}
 use Rattle.lf_definitions.specs.Typing.{LfGoal, goal_type}
 use Rattle.lf_definitions.specs.ShapedGoals.{shapes_of_goals}
 use Rattle.lf_definitions.proofs.Typing.{shape_of-pis}

@@ -11,3 +11,4 @@ pub mod PuttingTypes
 pub mod Mentions
 pub mod Extents
 pub mod GoalLists
+pub mod GoalNumbers

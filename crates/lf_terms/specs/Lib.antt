@@ -5,6 +5,7 @@ pub mod ShapeSizes
 pub mod Types
 pub mod TypeSizes
 pub mod Targets
+pub mod GoalNumbers
 pub mod Putting
 pub mod LocalShapes
 pub mod Finding

@@ -1,9 +1,11 @@
 //! Goals.
 
-ghost use Rattle.std.specs.Prelude.{◌≡◌, ◌↔◌, ◌++◌, [], ◌∷◌, IsTrue, IfOk, OnOk, OnErr, length, map};
+ghost use Rattle.std.specs.Prelude.{◌≡◌, ◌↔◌, ◌++◌, [], ◌∷◌, IsTrue, IfOk, OnOk, OnErr, length, map, option_map};
 ghost use Rattle.lf_definitions.specs.ShapedGoals.{shapes_of_goals};
+ghost use Rattle.lf_terms.specs.GoalNumbers.{first_goal};
 ghost use Rattle.lf_terms.specs.Targets.{goal_of};
 
+use crate::goal_numbers::{find_anywhere, find_rising, is_past, numbers_rise};
 use crate::same::{same_atom, same_tys};
 use crate::shape::{MetaShape, MetaShapes};
 use crate::shape_of::shapes_of;
@@ -24,10 +26,11 @@ pub struct Goal {
 #[derive(Drop)]
 pub struct GoalList {
     items: Vec<Goal>,
+    rises: bool,
 }
 
 impl Model for GoalList {
-    ghost use Rattle.std.specs.Prelude.{List, map};
+    ghost use Rattle.std.specs.Prelude.{List, IsTrue, map};
     ghost use Rattle.lf_definitions.specs.Typing.{LfGoal};
     ghost use Rattle.lf_definitions.specs.Codes.{goals_code};
 
@@ -38,6 +41,10 @@ impl Model for GoalList {
     ghost use Rattle.lf_terms.specs.Targets.{goal_of};
 
     ghost view = { λ a. map goal_of a.items.items };
+
+    ghost use Rattle.lf_terms.specs.GoalNumbers.{NumbersRise};
+
+    ghost invariant = { λ a. IsTrue a.rises → NumbersRise (map goal_of a.items.items) };
 }
 
 impl Goal {
@@ -105,14 +112,16 @@ impl GoalList {
     {
         GoalList {
             items: Vec::new(alloc),
+            rises: true,
         }
     }
 
-    /// The goals of a vector. It takes no memory.
+    /// The goals of a vector, whose numbers are compared in one pass. It takes no memory.
     pub fn from_vec(items: Vec<Goal>) -> GoalList
         ensures { result ≡ map goal_of items.items }
     {
-        GoalList { items }
+        let rises = numbers_rise(items.as_slice());
+        GoalList { items, rises }
     }
 
     /// The goals as a slice. It takes no memory.
@@ -129,12 +138,29 @@ impl GoalList {
         self.items.len()
     }
 
+    /// The first goal of a number, if there is one. Where the numbers rise it stands at the place of its number
+    /// or is found by halving, and elsewhere by a walk over the list. It takes no memory.
+    pub fn find(&self, id: u32) -> Option<&Goal>
+        ensures { option_map (λ g. goal_of g.now) result ≡ first_goal self.now id }
+    {
+        let goals = self.items.as_slice();
+        if self.rises {
+            find_rising(goals, id)
+        } else {
+            find_anywhere(goals, id)
+        }
+    }
+
     /// Adds a goal at the end. A refusal leaves the list as it was.
     pub fn push(&mut self, goal: Goal) -> Result<(), NoMemory>
         ensures ok { OnOk result (self.new ≡ self.old ++ goal_of goal ∷ []) }
         ensures err { OnErr result (self.new ≡ self.old) }
     {
+        let follows = is_past(self.items.as_slice(), &goal);
         self.items.push(goal)?;
+        if !follows {
+            self.rises = false;
+        }
         Ok(())
     }
 
@@ -142,11 +168,14 @@ impl GoalList {
     pub fn copy(&self, alloc: Global) -> Result<GoalList, NoMemory>
         ensures { IfOk result (λ goals. goals ≡ self.now) }
     {
-        let goals = self.as_slice();
+        let goals = self.items.as_slice();
         let mut copies = Vec::with_capacity(alloc, goals.len())?;
         for goal in goals {
             copies.push(goal.copy()?)?;
         }
-        Ok(GoalList::from_vec(copies))
+        Ok(GoalList {
+            items: copies,
+            rises: self.rises,
+        })
     }
 }

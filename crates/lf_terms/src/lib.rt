@@ -10,6 +10,7 @@ pub mod eta;
 mod extent;
 pub mod found;
 pub mod goal;
+mod goal_numbers;
 pub mod head;
 pub mod occurs;
 pub mod same;
