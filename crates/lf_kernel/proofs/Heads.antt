@@ -1,13 +1,10 @@
 -- The types of heads at a place.
-use Rattle.std.proofs.Common.{◌≡◌, ℕ, zero, suc, ◌+◌, ◌<◌, ◌≤◌, Option, Some, None, option_map, Bool, true, false, T, if◌then◌else◌, nat_eq, List, [], ◌∷◌, length, get_or, map, drop, refl, sym, ap, ◌∙◌, arith}
-use Rattle.std.proofs.lemmas.List.{drop_more}
-use Rattle.std.proofs.Math.Facts.{yes_eqb}
+use Rattle.std.proofs.Common.{◌≡◌, ℕ, zero, suc, ◌≤◌, Option, Some, None, option_map, Bool, true, false, if◌then◌else◌, nat_eq, List, [], ◌∷◌, length, refl, ap, ◌∙◌, arith}
 use Rattle.lf_definitions.specs.Syntax.{bound, constant, metavariable, LfType, Context}
-use Rattle.lf_definitions.specs.Renaming.{next_by, rename_type, raise_type}
+use Rattle.lf_definitions.specs.Renaming.{raise_type}
 use Rattle.lf_definitions.specs.Typing.{Typing, with_variable, with_context, LfGoal, goal_type, type_at, type_of_metavariable, typed_globals}
-use Rattle.lf_definitions.proofs.Variables.{rename_type-next_by_zero, with_context-constant, with_context-metavariable}
-use Rattle.lf_terms.specs.declared.goal.Goal.{Goal}
-use Rattle.lf_terms.specs.Targets.{goal_of}
+use Rattle.lf_definitions.proofs.Variables.{with_context-constant, with_context-metavariable}
+use Rattle.lf_terms.specs.GoalNumbers.{first_goal}
 use Rattle.lf_terms.specs.Types.{types_of}
 use Rattle.lf_kernel.specs.declared.local_context.LocalContext.{LocalContext}
 use Rattle.lf_kernel.specs.declared.local_context.LocalContext.TheVariants.{Closed, Under'}
@@ -46,19 +43,15 @@ pub typing_under-metavariable : (scope : LocalContext) (Γ : Typing) (g : ℕ) �
 typing_under-metavariable Closed Γ g = refl
 typing_under-metavariable (Under' binders p outside) Γ g = with_context-metavariable (types_of binders.now) (typing_under Γ outside) g ∙ typing_under-metavariable outside Γ g
 
--- goals, in a loop
-abbrev pub in_rest : List Goal → ℕ → ℕ → Option LfType
-in_rest items i g = type_of_metavariable (map goal_of (drop i items)) g
-
-pub goal_more : (items : List Goal) (i g : ℕ) (m : Goal) → i < length items → m ≡ get_or items i m →
-    in_rest items i g ≡ (if nat_eq m.id g then Some (goal_type (goal_of m)) else in_rest items (i + 1) g)
-goal_more items i g m within is =
-    ap (λ l. type_of_metavariable (map goal_of l) g) (drop_more items i m within ∙ ap (λ x. x ∷ drop (i + 1) items) (sym is))
-
-pub goal_found : (items : List Goal) (i g : ℕ) (m : Goal) (whole : Option LfType) → i < length items → m ≡ get_or items i m → m.id ≡ g → in_rest items i g ≡ whole → Some (rename_type (next_by 0) (goal_type (goal_of m))) ≡ whole
-goal_found items i g m whole within is same before =
-    ap Some (rename_type-next_by_zero (goal_type (goal_of m))) ∙ here (nat_eq m.id g) (yes_eqb same) ∙ sym (goal_more items i g m within is) ∙ before
+-- the type of the first goal of a number
+pub goal_known : (goals : List LfGoal) (n : ℕ) (found : Option LfGoal) → found ≡ first_goal goals n → option_map goal_type found ≡ type_of_metavariable goals n
+goal_known goals n found is = ap (option_map goal_type) is ∙ first_type goals
   where
-    here : (b : Bool) → T b → ◌≡◌ {A = Option LfType} (Some (goal_type (goal_of m))) (if b then Some (goal_type (goal_of m)) else in_rest items (i + 1) g)
-    here true e = refl
-    here false e = absurd e
+    at_test : (g : LfGoal) (rest : List LfGoal) (b : Bool) → option_map goal_type (first_goal rest n) ≡ type_of_metavariable rest n →
+        option_map goal_type (if b then Some g else first_goal rest n) ≡ (if b then Some (goal_type g) else type_of_metavariable rest n)
+    at_test g rest true e = refl
+    at_test g rest false e = e
+
+    first_type : (goals : List LfGoal) → option_map goal_type (first_goal goals n) ≡ type_of_metavariable goals n
+    first_type [] = refl
+    first_type (g ∷ rest) = at_test g rest (nat_eq g.id n) (first_type rest)

@@ -9,4 +9,3 @@ pub mod Under
 pub mod Families
 pub mod Openings
 pub mod ConstantShapes
-pub mod PlacedGoals

@@ -1,5 +1,5 @@
 -- The types of heads at a place.
-use Rattle.std.specs.Prelude.{◌≢◌, List, AllPairs, Option, option_map}
+use Rattle.std.specs.Prelude.{List, Option, option_map}
 use Rattle.lf_definitions.specs.Syntax.{LfType, family, pis}
 use Rattle.lf_definitions.specs.Renaming.{next_by, rename_type}
 use Rattle.lf_definitions.specs.Typing.{Typing, LfGoal, typed_globals}
@@ -23,7 +23,3 @@ declared_type h = pis h.binders.now (family h.family h.args.now)
 -- and as it is seen from the place
 abbrev pub seen_type : Option HeadType → Option LfType
 seen_type found = option_map (λ h. rename_type (next_by h.raise) (declared_type h)) found
-
--- No two goals have the same number.
-abbrev pub HaveDistinctNumbers : List LfGoal → Type 0
-HaveDistinctNumbers goals = AllPairs (λ g h. g.id ≢ h.id) goals

@@ -1,4 +1,4 @@
--- What is known at a place: its types are shaped, and no two of its goals have the same number.
+-- What is known at a place: its types are shaped.
 use Rattle.std.specs.Prelude.{ℕ}
 use Rattle.lf_definitions.specs.Syntax.{LfType, Context}
 use Rattle.lf_definitions.specs.Renaming.{next_by}
@@ -7,10 +7,10 @@ use Rattle.lf_definitions.specs.Typing.{Typing, shapes_of}
 use Rattle.lf_definitions.specs.Signatures.{kinds_in}
 use Rattle.lf_definitions.specs.ShapedGoals.{ShapedTyping, ShapedContext, kind_shapes_in}
 use Rattle.lf_kernel.specs.declared.place.Place.{Place}
-use Rattle.lf_kernel.specs.Heads.{typing_of, HaveDistinctNumbers}
+use Rattle.lf_kernel.specs.Heads.{typing_of}
 
 abbrev pub ShapedAt : Place → Type 0
-ShapedAt p = ShapedTyping (kinds_in p.sig.now) (typing_of p) × HaveDistinctNumbers p.metas.now
+ShapedAt p = ShapedTyping (kinds_in p.sig.now) (typing_of p)
 
 -- a type that a term is tested against
 abbrev pub ShapedTypeAt : Place → LfType → Type 0

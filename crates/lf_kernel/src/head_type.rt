@@ -3,7 +3,7 @@
 ghost use Rattle.std.specs.Prelude.{◌≡◌, IfOk};
 ghost use Rattle.lf_definitions.specs.Signatures.{constant_types};
 ghost use Rattle.lf_definitions.specs.Typing.{type_at, type_of_metavariable};
-ghost use Rattle.lf_kernel.specs.Heads.{typing_at, seen_type, HaveDistinctNumbers};
+ghost use Rattle.lf_kernel.specs.Heads.{typing_at, seen_type};
 ghost use Rattle.lf_terms.specs.Terms.{head_of};
 
 use crate::local_context::{LocalContext, type_of_variable};
@@ -66,40 +66,17 @@ fn type_of_constant<'a>(sig: &'a Signature, number: u32) -> Option<HeadType<'a>>
     })
 }
 
-// The type of a goal as a metavariable, which is found in one step where the goal's number is its place.
-pub(crate) fn type_of_placed_goal<'a>(metas: &'a GoalList, number: u32) -> Option<HeadType<'a>>
-    requires { HaveDistinctNumbers metas.now }
-    ensures { seen_type result ≡ type_of_metavariable metas.now number }
-{
-    let goals = metas.as_slice();
-    let place = number as usize;
-    if place < goals.len() {
-        let goal = &goals[place];
-        if goal.id == number {
-            return Some(HeadType {
-                binders: &goal.ctx,
-                family: goal.target.family,
-                args: &goal.target.args,
-                raise: 0,
-            });
-        }
-    }
-    type_of_goal(metas, number)
-}
-
 // The type of a goal as a metavariable: its context as binders over its target.
 fn type_of_goal<'a>(metas: &'a GoalList, number: u32) -> Option<HeadType<'a>>
     ensures { seen_type result ≡ type_of_metavariable metas.now number }
 {
-    for goal in metas.as_slice() {
-        if goal.id == number {
-            return Some(HeadType {
-                binders: &goal.ctx,
-                family: goal.target.family,
-                args: &goal.target.args,
-                raise: 0,
-            });
-        }
+    match metas.find(number) {
+        None => None,
+        Some(goal) => Some(HeadType {
+            binders: &goal.ctx,
+            family: goal.target.family,
+            args: &goal.target.args,
+            raise: 0,
+        }),
     }
-    None
 }

@@ -1,10 +1,10 @@
 //! Where a walk stands.
 
 ghost use Rattle.std.specs.Prelude.{◌≡◌, IfOk};
-ghost use Rattle.lf_kernel.specs.Heads.{typing_of, seen_type, HaveDistinctNumbers};
+ghost use Rattle.lf_kernel.specs.Heads.{typing_of, seen_type};
 ghost use Rattle.lf_terms.specs.Terms.{head_of};
 
-use crate::head_type::{HeadType, type_of_head, type_of_placed_goal};
+use crate::head_type::{HeadType, type_of_head};
 use crate::local_context::LocalContext;
 use basics::NoMemory;
 use lf_terms::{GoalList, Head, Signature};
@@ -20,13 +20,9 @@ pub struct Place<'a> {
     pub scope: &'a LocalContext<'a>,
 }
 
-// The type of a head at a place, if it may occur. A goal is found in one step where its number is its place.
+// The type of a head at a place, if it may occur.
 pub fn type_at_place<'a>(place: &'a Place<'a>, head: Head) -> Result<Option<HeadType<'a>>, NoMemory>
-    requires { HaveDistinctNumbers place.now.metas.now }
     ensures { IfOk result (λ found. seen_type found ≡ typing_of place.now (head_of head)) }
 {
-    match head {
-        Head::Meta(goal) => Ok(type_of_placed_goal(place.metas, goal)),
-        Head::Bound(_) | Head::Const(_) => type_of_head(place.sig, place.metas, place.scope, head),
-    }
+    type_of_head(place.sig, place.metas, place.scope, head)
 }

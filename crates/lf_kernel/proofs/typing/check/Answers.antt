@@ -5,7 +5,7 @@ use Rattle.lf_kernel.proofs.typing.check.Goals as goal
 pub walk_term-requires-clause-typing : goal.walk_term-requires-clause-typing
 walk_term-requires-clause-typing c =
     let a = c.args in
-    (known_at a.sig.now a.metas.now a.ctx.now c.as_slice-types.result.now c.as_slice-types.ensures c.is_formed.ensures c.requires.goals c.requires.context, c.requires.goals.0)
+    known_at a.sig.now a.metas.now a.ctx.now c.as_slice-types.result.now c.as_slice-types.ensures c.is_formed.ensures c.requires.goals c.requires.context
 
 pub walk_term-requires-clause-shaped : goal.walk_term-requires-clause-shaped
 walk_term-requires-clause-shaped c =

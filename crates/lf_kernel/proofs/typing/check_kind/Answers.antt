@@ -1,13 +1,12 @@
 use Rattle.std.proofs.Common.{[], sym, subst}
 use Rattle.lf_definitions.specs.Signatures.{kinds_in, typing_in}
 use Rattle.lf_kernel.specs.Checks.{ChecksKind}
-use Rattle.lf_kernel.proofs.Openings.{known_closed, kind_checked, no_goals_shaped}
+use Rattle.lf_kernel.proofs.Openings.{known_closed, kind_checked}
 use Rattle.lf_kernel.proofs.typing.check_kind.Goals as goal
 
 pub walk_binders-requires : goal.walk_binders-requires
 walk_binders-requires c =
-    let goals = c.new-metas.result in
-    (known_closed c.args.sig.now goals c.new-metas.ensures c.is_formed.ensures, (no_goals_shaped c.args.sig.now goals c.new-metas.ensures).0)
+    known_closed c.args.sig.now c.new-metas.result c.new-metas.ensures c.is_formed.ensures
 
 pub returns : goal.returns
 returns c =

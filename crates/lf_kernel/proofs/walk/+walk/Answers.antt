@@ -119,9 +119,6 @@ walk_spine-returns-then-len t c =
     count_fails Γ h c.in-Some.found (subst (λ o. seen_type o ≡ Γ h) c.in-Some.is c.in_ok-found.ensures) a.args.now a.ty.now.args a.ty.now.family c.new-then-len.result
     (λ e. c.if-len.true (c.len.ensures ∙ e ∙ sym c.len-2.ensures)) c.new-then-len.ensures
 
-pub walk_spine-type_at_place-requires : goal.walk_spine-type_at_place-requires
-walk_spine-type_at_place-requires t c = c.requires.typing.1
-
 pub walk_spine-binder_shapes-requires : goal.walk_spine-binder_shapes-requires
 walk_spine-binder_shapes-requires t c =
     let a = c.args in
@@ -136,7 +133,7 @@ walk_spine-walk_args-requires t c =
       (
         c.requires.typing,
         (
-          binders_shaped Γ h c.in-Some.found (subst (λ o. seen_type o ≡ Γ h) c.in-Some.is c.in_ok-found.ensures) (kinds_in a.place.now.sig.now) c.requires.typing.0,
+          binders_shaped Γ h c.in-Some.found (subst (λ o. seen_type o ≡ Γ h) c.in-Some.is c.in_ok-found.ensures) (kinds_in a.place.now.sig.now) c.requires.typing,
           (c.in_ok-shapes.ensures, sym c.len.ensures ∙ c.if-len.false ∙ c.len-2.ensures),
         ),
       ),
@@ -161,7 +158,7 @@ walk_spine-gives-requires t c =
     let found = c.in-Some.found in
     let bs = rename_context (next_by found.raise) found.binders.now in
     let typed = well (TypedSpine Γ stays a.args.now bs) (FailsSpine Γ stays a.args.now bs 0) c.in_ok-path.field-0 c.in-None.is c.in_ok-path.ensures in
-    puts_result Γ h found (subst (λ o. seen_type o ≡ Γ h) c.in-Some.is c.in_ok-found.ensures) (kinds_in a.place.now.sig.now) a.args.now c.in_ok-shapes.shapes c.requires.typing.0 c.in_ok-shapes.ensures typed
+    puts_result Γ h found (subst (λ o. seen_type o ≡ Γ h) c.in-Some.is c.in_ok-found.ensures) (kinds_in a.place.now.sig.now) a.args.now c.in_ok-shapes.shapes c.requires.typing c.in_ok-shapes.ensures typed
 
 pub walk_spine-returns-then-branch : goal.walk_spine-returns-then-branch
 walk_spine-returns-then-branch t c =
@@ -190,7 +187,7 @@ walk_term-walk_body-requires-in-Ok t c =
     let a = c.args in
     let Γ = typing_of a.place.now in (
       omega (arith, c.decreases, ap term_size c.in-Ok.ensures, term_size-lams (length c.as_slice-binders.result.now) (term_of c.in-Ok.body.now)),
-      (under_binders (kinds_in a.place.now.sig.now) Γ c.as_slice-binders.result.now a.ty.now.binders (family a.ty.now.family a.ty.now.args) c.as_slice-binders.ensures c.requires.typing.0 c.requires.shaped, c.requires.typing.1),
+      under_binders (kinds_in a.place.now.sig.now) Γ c.as_slice-binders.result.now a.ty.now.binders (family a.ty.now.family a.ty.now.args) c.as_slice-binders.ensures c.requires.typing c.requires.shaped,
     )
 
 pub walk_term-returns-in_ok-under-in-Err : goal.walk_term-returns-in_ok-under-in-Err

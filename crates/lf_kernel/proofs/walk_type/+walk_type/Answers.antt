@@ -20,7 +20,7 @@ pub walk_binders-walk_type-requires : goal.walk_binders-walk_type-requires
 walk_binders-walk_type-requires t c =
     let a = c.args in (
       omega (arith, c.decreases, item_size a.binders.now c.loop-i.i c.index-binders-i.result c.loop-i-test.true c.index-binders-i.is),
-      (ShapedTyping-with_context (types_of (take c.loop-i.i a.binders.now)) (kinds_in a.place.now.sig.now) (typing_of a.place.now) c.requires.0 (ShapedContext-FormedContext c.loop-i.invariant), c.requires.1),
+      ShapedTyping-with_context (types_of (take c.loop-i.i a.binders.now)) (kinds_in a.place.now.sig.now) (typing_of a.place.now) c.requires (ShapedContext-FormedContext c.loop-i.invariant),
     )
 
 pub walk_binders-returns-in-Some : goal.walk_binders-returns-in-Some
@@ -56,7 +56,7 @@ walk_type-walk_family-requires t c =
     let Γ = typing_of a.place.now in
     let bs = types_of c.as_slice-binders.result.now in
     let formed = well (FormedContext kinds Γ bs) (FailsContextFrom kinds Γ bs 0) c.in_ok-path.field-0 c.in-None.is c.in_ok-path.ensures in
-    (ShapedTyping-with_context bs kinds Γ c.requires.0 (ShapedContext-FormedContext formed), c.requires.1)
+    ShapedTyping-with_context bs kinds Γ c.requires (ShapedContext-FormedContext formed)
 
 pub walk_type-returns-in-Some : goal.walk_type-returns-in-Some
 walk_type-returns-in-Some t c =

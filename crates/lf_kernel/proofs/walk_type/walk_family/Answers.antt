@@ -20,7 +20,7 @@ returns-then-len c =
 pub walk_args-requires-clause-shaped : goal.walk_args-requires-clause-shaped
 walk_args-requires-clause-shaped c =
     let a = c.args in
-    family_shaped (kinds_in a.place.now.sig.now) (typing_of a.place.now) a.number c.kind_of.result.now.binders c.requires.0 c.kind_of.ensures
+    family_shaped (kinds_in a.place.now.sig.now) (typing_of a.place.now) a.number c.kind_of.result.now.binders c.requires c.kind_of.ensures
 
 pub returns : goal.returns
 returns c =
