@@ -11,14 +11,14 @@ use Rattle.lf_terms.specs.declared.ty.Ty.{Ty}
 use Rattle.lf_terms.specs.Terms.{term_of, spine_of}
 use Rattle.lf_terms.specs.Types.{type_of, types_of}
 use Rattle.lf_terms.proofs.TypeLists.{types_of-drop}
-use Rattle.file_print.specs.Marks.{marks_of, HaveAt}
-use Rattle.file_print.specs.Mentions.{mentions}
+use Rattle.binder_marks.specs.Marks.{marks_of, HaveAt}
+use Rattle.binder_marks.specs.Mentions.{mentions}
 use Rattle.file_print.specs.Parts.{argument_text, binder_text}
 use Rattle.file_print.specs.Printable.{IsPrintable, ArePrintable, IsPrintableType}
 use Rattle.file_print.specs.Texts.{args_text, has_binders, type_text}
 use Rattle.file_print.proofs.KeptTexts.{kept_unchanged, kept_appended, kept_later}
-use Rattle.file_print.proofs.MarkPrefixes.{prefix_within, prefix_mark, prefix_later, prefix_first, prefix_then}
-use Rattle.file_print.proofs.MarkSteps.{spine_of-drop}
+use Rattle.binder_marks.proofs.MarkPrefixes.{prefix_within, prefix_mark, prefix_later, prefix_first, prefix_then}
+use Rattle.binder_marks.proofs.MarkSteps.{spine_of-drop}
 
 -- Arguments: those before a place are printed, and the rest is still to come.
 

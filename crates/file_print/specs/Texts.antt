@@ -2,7 +2,7 @@
 use Rattle.std.specs.Prelude.{ℕ, suc, ◌-◌, List, [], ◌++◌, codes, decimal, Bool, true, false, if◌then◌else◌}
 use Rattle.lf_definitions.specs.Syntax.{LfHead, bound, constant, metavariable, LfTerm, lam, at, Spine, no_args, arg, LfType, pi, family}
 use Rattle.lf_definitions.specs.Signatures.{LfSignature, constant_names, family_names, name_at}
-use Rattle.file_print.specs.Mentions.{mentions}
+use Rattle.binder_marks.specs.Mentions.{mentions}
 
 -- a variable that is bound under so many binders
 abbrev pub variable_text : ℕ → List ℕ

@@ -2,8 +2,6 @@
 //! Proved: what is appended is exactly the text of the term or type.
 #![tactic(auto)]
 
-pub mod laws;
-mod marking;
 mod numerals;
 pub mod printing;
 

@@ -5,13 +5,13 @@ ghost use Rattle.std.specs.Io.{StartsWith};
 ghost use Rattle.lf_terms.specs.Terms.{head_of, term_of};
 ghost use Rattle.lf_terms.specs.Types.{type_of};
 ghost use Rattle.file_print.specs.Parts.{abstracted_text, argument_text, binder_text, left_text};
-ghost use Rattle.file_print.specs.Marks.{HaveAt, marks_of};
+ghost use Rattle.binder_marks.specs.Marks.{HaveAt, marks_of};
 ghost use Rattle.file_print.specs.Printable.{ArePrintable, IsPrintable, IsPrintableHead, IsPrintableType};
 ghost use Rattle.file_print.specs.Texts.{args_text, has_binders, head_text, is_name, term_text, type_text};
 
-use crate::marking::binder_marks;
 use crate::numerals::append_variable;
 use basics::{Bytes, NoMemory};
+use binder_marks::binder_marks;
 use lf_terms::{Head, Signature, Term, Terms, Ty};
 use std::alloc::Global;
 

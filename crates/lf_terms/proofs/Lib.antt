@@ -8,7 +8,6 @@ pub mod Abstractions
 pub mod LocalShapes
 pub mod SignatureEntries
 pub mod PuttingTypes
-pub mod Mentions
 pub mod Extents
 pub mod GoalLists
 pub mod GoalNumbers

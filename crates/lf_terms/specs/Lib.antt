@@ -10,5 +10,4 @@ pub mod Putting
 pub mod LocalShapes
 pub mod Finding
 pub mod Entries
-pub mod Mentions
 pub mod Extents

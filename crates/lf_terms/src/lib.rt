@@ -12,7 +12,6 @@ pub mod found;
 pub mod goal;
 mod goal_numbers;
 pub mod head;
-pub mod occurs;
 pub mod same;
 pub mod shape;
 pub mod shape_of;

@@ -4,7 +4,7 @@ use Rattle.std.specs.Prelude.{codes, if◌then◌else◌}
 use Rattle.lex_text.specs.declared.mark.Mark.TheVariants.{Colon, Arrow, RParen, LBrace, RBrace}
 use Rattle.lf_definitions.specs.Syntax.{LfHead, bound, constant, metavariable, LfTerm, lam, at, Spine, no_args, arg, LfType, pi, family}
 use Rattle.lf_definitions.specs.Signatures.{LfSignature, family_names, name_at}
-use Rattle.file_print.specs.Mentions.{mentions}
+use Rattle.binder_marks.specs.Mentions.{mentions}
 use Rattle.file_print.specs.Texts as texts
 use Rattle.file_print.specs.Texts.{variable_text, head_text, is_name, term_text, args_text, has_binders, type_text}
 use Rattle.printed_tokens.specs.Pieces.{Piece, space, piece, piece_text, pieces_text, variable_piece, head_piece, pieces_in_parentheses, term_pieces, args_pieces, type_pieces}

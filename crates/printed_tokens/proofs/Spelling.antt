@@ -8,7 +8,7 @@ use Rattle.lex_text.specs.Tokens.{TokensOf}
 use Rattle.lf_definitions.specs.Syntax.{LfHead, bound, constant, metavariable, LfTerm, lam, at, Spine, no_args, arg, LfType, pi, family}
 use Rattle.lf_definitions.specs.Signatures.{LfSignature, family_entry, constant_entry, names_of, constant_names, family_names, name_at}
 use Rattle.file_elab.specs.GrammarNames.{IsGrammarName}
-use Rattle.file_print.specs.Mentions.{mentions}
+use Rattle.binder_marks.specs.Mentions.{mentions}
 use Rattle.file_print.specs.Printable.{IsPrintableHead, IsPrintable, ArePrintable, IsPrintableType}
 use Rattle.file_print.specs.Texts.{is_name, has_binders, type_text}
 use Rattle.printed_tokens.specs.Pieces.{Piece, space, piece, variable_piece, head_piece, pieces_in_parentheses, tokens_from, term_pieces, args_pieces, type_pieces}

@@ -5,7 +5,7 @@ use Rattle.lex_text.specs.declared.mark.Mark.TheVariants.{Word, Var, Colon, Arro
 use Rattle.lex_text.specs.declared.token.Token.{Token}
 use Rattle.lf_definitions.specs.Syntax.{LfHead, bound, constant, metavariable, LfTerm, lam, at, Spine, no_args, arg, LfType, pi, family}
 use Rattle.lf_definitions.specs.Signatures.{LfSignature, constant_names, family_names, name_at}
-use Rattle.file_print.specs.Mentions.{mentions}
+use Rattle.binder_marks.specs.Mentions.{mentions}
 use Rattle.file_print.specs.Texts.{variable_text, is_name, has_binders}
 
 -- a space, or a token with its bytes

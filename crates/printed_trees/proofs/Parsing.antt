@@ -21,7 +21,7 @@ use Rattle.elab_terms.specs.Applied.{IsApplied}
 use Rattle.elab_terms.specs.Types.{IsBinder, pi_binder, arrow_binder}
 use Rattle.elab_terms.proofs.Applications.{base_of-apply_all, arguments_of_application}
 use Rattle.file_elab.specs.GrammarNames.{IsGrammarName}
-use Rattle.file_print.specs.Mentions.{mentions}
+use Rattle.binder_marks.specs.Mentions.{mentions}
 use Rattle.file_print.specs.Printable.{IsPrintableHead, IsPrintable, ArePrintable, IsPrintableType}
 use Rattle.file_print.specs.Texts.{variable_text, head_text, is_name, has_binders}
 use Rattle.printed_tokens.specs.Pieces.{Piece, space, piece, variable_piece, head_piece, pieces_in_parentheses, tokens_from, term_pieces, args_pieces, type_pieces}

@@ -8,7 +8,7 @@ use Rattle.file_trees.specs.Trees as trees
 use Rattle.elab_terms.specs.Names.{Text, text_at, binder_name}
 use Rattle.elab_terms.specs.Applied.{IsApplied}
 use Rattle.elab_terms.specs.Types.{IsBinder}
-use Rattle.file_print.specs.Mentions.{mentions}
+use Rattle.binder_marks.specs.Mentions.{mentions}
 use Rattle.file_print.specs.Texts.{variable_text, head_text}
 
 mutual

@@ -13,7 +13,7 @@ use Rattle.file_syntax.specs.Nesting.{one_deeper, one_closed, open_after, open_i
 use Rattle.lex_text.specs.Tokens.{text_of}
 use Rattle.lf_definitions.specs.Syntax.{LfHead, bound, constant, metavariable, LfTerm, lam, at, Spine, no_args, arg, LfType, pi, family}
 use Rattle.lf_definitions.specs.Signatures.{LfSignature}
-use Rattle.file_print.specs.Mentions.{mentions}
+use Rattle.binder_marks.specs.Mentions.{mentions}
 use Rattle.file_print.specs.Texts.{is_name, has_binders, type_text}
 use Rattle.printed_types.specs.Depths.{IsWithinDepth, AreWithinDepth, IsTypeWithinDepth}
 use Rattle.printed_tokens.specs.Pieces.{Piece, space, piece, variable_piece, head_piece, pieces_in_parentheses, tokens_from, term_pieces, args_pieces, type_pieces}

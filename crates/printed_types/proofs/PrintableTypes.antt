@@ -9,7 +9,7 @@ use Rattle.lf_definitions.specs.Typing.{Typing, Kinds, Typed, typed_lam, typed_a
 use Rattle.lf_definitions.specs.Signatures.{LfSignature, family_entry, constant_entry, constant_names, constant_types, family_names, kinds_in, typing_in, FormedEntry, FormedSignature}
 use Rattle.lf_definitions.proofs.Growth.{AllFormed}
 use Rattle.lf_definitions.proofs.Options.{None-Some, Some-Some}
-use Rattle.file_print.specs.Mentions.{mentions_in_term, mentions_in_spine, mentions, is_variable}
+use Rattle.binder_marks.specs.Mentions.{mentions_in_term, mentions_in_spine, mentions, is_variable}
 use Rattle.file_print.specs.Printable.{IsPrintableHead, IsPrintable, ArePrintable, IsPrintableType}
 
 -- what a choice of two tells

@@ -12,7 +12,7 @@ use Rattle.elab_terms.specs.Names.{Text, Bound, named_head, family_of}
 use Rattle.elab_terms.specs.Terms.{ReadsTerm, reads_abstraction, reads_application, ReadsArguments, reads_none, reads_argument}
 use Rattle.elab_terms.specs.Types.{ReadsType, reads_binder, reads_family}
 use Rattle.elab_terms.proofs.Expanding.{expanded_none}
-use Rattle.file_print.specs.Mentions.{mentions_in_term, mentions_in_spine, mentions, is_variable}
+use Rattle.binder_marks.specs.Mentions.{mentions_in_term, mentions_in_spine, mentions, is_variable}
 use Rattle.file_print.specs.Texts.{head_text, variable_text}
 use Rattle.printed_types.specs.Depths.{IsWithinDepth, AreWithinDepth, IsTypeWithinDepth}
 use Rattle.printed_tokens.proofs.Spelling.{AreNamed}

@@ -7,7 +7,7 @@ use Rattle.lf_definitions.specs.Syntax.{LfType, family, pis, Spine}
 use Rattle.lf_definitions.specs.Occurrence.{Premises, no_premise, witness, premise}
 use Rattle.lf_terms.specs.declared.ty.Ty.{Ty}
 use Rattle.lf_terms.specs.Types.{type_of, types_of}
-use Rattle.lf_terms.specs.Mentions.{AreMentions, mentions_binder}
+use Rattle.binder_marks.specs.Mentions.{AreMentions, mentions_binder}
 use Rattle.rule_sets.specs.Refusals.{IsAtomic}
 use Rattle.rule_sets.specs.Acceptance.{HasPremisesOf}
 

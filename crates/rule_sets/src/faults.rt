@@ -11,7 +11,7 @@ use crate::book::RuleBook;
 use crate::rule::{Builder, Phase, Rule, RuleFault};
 use basics::NoMemory;
 use basics::limits::MOST_RULES;
-use lf_terms::occurs::mentioned_binders;
+use binder_marks::mentioned_binders;
 use lf_terms::{Signature, Ty};
 use std::alloc::Global;
 

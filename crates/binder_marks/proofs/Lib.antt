@@ -1,0 +1,4 @@
+mod PlacedMarks
+pub mod MarkSteps
+pub mod MarkPrefixes
+mod BinderPlaces
