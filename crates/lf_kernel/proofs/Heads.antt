@@ -4,7 +4,7 @@ use Rattle.lf_definitions.specs.Syntax.{bound, constant, metavariable, LfType, C
 use Rattle.lf_definitions.specs.Renaming.{raise_type}
 use Rattle.lf_definitions.specs.Typing.{Typing, with_variable, with_context, LfGoal, goal_type, type_at, type_of_metavariable, typed_globals}
 use Rattle.lf_definitions.proofs.Variables.{with_context-constant, with_context-metavariable}
-use Rattle.lf_terms.specs.GoalNumbers.{first_goal}
+use Rattle.lf_terms.specs.GoalNumbers.{goal_numbered}
 use Rattle.lf_terms.specs.Types.{types_of}
 use Rattle.lf_kernel.specs.declared.local_context.LocalContext.{LocalContext}
 use Rattle.lf_kernel.specs.declared.local_context.LocalContext.TheVariants.{Closed, Under'}
@@ -44,14 +44,14 @@ typing_under-metavariable Closed Γ g = refl
 typing_under-metavariable (Under' binders p outside) Γ g = with_context-metavariable (types_of binders.now) (typing_under Γ outside) g ∙ typing_under-metavariable outside Γ g
 
 -- the type of the first goal of a number
-pub goal_known : (goals : List LfGoal) (n : ℕ) (found : Option LfGoal) → found ≡ first_goal goals n → option_map goal_type found ≡ type_of_metavariable goals n
+pub goal_known : (goals : List LfGoal) (n : ℕ) (found : Option LfGoal) → found ≡ goal_numbered goals n → option_map goal_type found ≡ type_of_metavariable goals n
 goal_known goals n found is = ap (option_map goal_type) is ∙ first_type goals
   where
-    at_test : (g : LfGoal) (rest : List LfGoal) (b : Bool) → option_map goal_type (first_goal rest n) ≡ type_of_metavariable rest n →
-        option_map goal_type (if b then Some g else first_goal rest n) ≡ (if b then Some (goal_type g) else type_of_metavariable rest n)
+    at_test : (g : LfGoal) (rest : List LfGoal) (b : Bool) → option_map goal_type (goal_numbered rest n) ≡ type_of_metavariable rest n →
+        option_map goal_type (if b then Some g else goal_numbered rest n) ≡ (if b then Some (goal_type g) else type_of_metavariable rest n)
     at_test g rest true e = refl
     at_test g rest false e = e
 
-    first_type : (goals : List LfGoal) → option_map goal_type (first_goal goals n) ≡ type_of_metavariable goals n
+    first_type : (goals : List LfGoal) → option_map goal_type (goal_numbered goals n) ≡ type_of_metavariable goals n
     first_type [] = refl
     first_type (g ∷ rest) = at_test g rest (nat_eq g.id n) (first_type rest)

@@ -2,7 +2,7 @@
 
 ghost use Rattle.std.specs.Prelude.{[], IfOk};
 ghost use Rattle.lf_definitions.specs.Signatures.{family_entry, constant_entry, kinds_in, typing_in};
-ghost use Rattle.lf_kernel.specs.Adding.{AddsEntry, HasRoomOr};
+ghost use Rattle.lf_kernel.specs.Adding.{AddsEntry, MayAddOr};
 ghost use Rattle.lf_kernel.specs.Checks.{ChecksType};
 ghost use Rattle.lf_terms.specs.Types.{type_of};
 
@@ -57,7 +57,7 @@ pub fn add_const(alloc: Global, sig: &mut Signature, name: Name, ty: Ty) -> Resu
 
 // Whether an entry of this name may be added, if it is well formed, or why not.
 fn room_for(sig: &Signature, name: &Name) -> Result<(), SigFault>
-    ensures { HasRoomOr sig.now name.now result }
+    ensures { MayAddOr sig.now name.now result }
 {
     sig.has_few_entries();
     match sig.order_of(name) {

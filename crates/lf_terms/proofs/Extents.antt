@@ -8,7 +8,7 @@ use Rattle.lf_definitions.proofs.Telescopes.{next_by-bound, next_by-metavariable
 use Rattle.lf_terms.specs.declared.extent.Extent.{Extent}
 use Rattle.lf_terms.specs.declared.term.Term.{Term}
 use Rattle.lf_terms.specs.declared.ty.Ty.{Ty}
-use Rattle.lf_terms.specs.Extents.{Covers, IsWider, IsOutside, IsWithin, InTerm, InSpine, InType, InContext, IsHead, no_bound}
+use Rattle.lf_terms.specs.Extents.{Covers, IsWider, IsOutside, StaysWithin, InTerm, InSpine, InType, InContext, IsHead, no_bound}
 use Rattle.lf_terms.specs.Terms.{term_of, spine_of}
 use Rattle.lf_terms.specs.Types.{type_of, types_of}
 use Rattle.lf_terms.specs.Putting.{putting}
@@ -145,7 +145,7 @@ covers_more_types a inside b e xs i x within is outside first second c d =
     (covers_outside inside b (length bs) (InType (type_of x)) outside_all d))
 
 -- What the test tells.
-pub within : (e : Extent) (depth : ℕ) (Occurring : LfHead → Type 0) → Covers e Occurring → (e.reach ≤ depth) × (e.reach < no_bound) → IsWithin depth Occurring
+pub within : (e : Extent) (depth : ℕ) (Occurring : LfHead → Type 0) → Covers e Occurring → (e.reach ≤ depth) × (e.reach < no_bound) → StaysWithin depth Occurring
 within e depth Occurring c small n far here = c.variables small.1 n (omega (arith, small.0)) here
 
 -- Where each head that occurs stays as it is, so does the whole.
@@ -173,7 +173,7 @@ type_stays (pi a b) σ leaves =
 type_stays (family f args) σ leaves = substituted_family (spine_stays args σ (λ h o. leaves h (occurs_family h f args o)))
 
 -- Putting a list for variables outside of all that occur leaves them.
-putting_leaves : (sub : Spine) (by d : ℕ) (Occurring : LfHead → Type 0) → IsWithin d Occurring → Leaves (putting sub by d) Occurring
+putting_leaves : (sub : Spine) (by d : ℕ) (Occurring : LfHead → Type 0) → StaysWithin d Occurring → Leaves (putting sub by d) Occurring
 putting_leaves sub by d Occurring inside (bound n) here = by_number (less_or n d)
   where
     less_or : (n d : ℕ) → (n < d) ⊎ (d ≤ n)
@@ -191,11 +191,11 @@ putting_leaves sub by d Occurring inside (bound n) here = by_number (less_or n d
 putting_leaves sub by d Occurring inside (constant c) here = put_constant sub by d c
 putting_leaves sub by d Occurring inside (metavariable g) here = put_metavariable sub by d g
 
-pub term_unchanged : (sub : Spine) (by d : ℕ) (t : LfTerm) → IsWithin d (InTerm t) → Substituted (putting sub by d) t t
+pub term_unchanged : (sub : Spine) (by d : ℕ) (t : LfTerm) → StaysWithin d (InTerm t) → Substituted (putting sub by d) t t
 term_unchanged sub by d t inside = term_stays t (putting sub by d) (putting_leaves sub by d (InTerm t) inside)
 
-pub spine_unchanged : (sub : Spine) (by d : ℕ) (ts : Spine) → IsWithin d (InSpine ts) → SubstitutedSpine (putting sub by d) ts ts
+pub spine_unchanged : (sub : Spine) (by d : ℕ) (ts : Spine) → StaysWithin d (InSpine ts) → SubstitutedSpine (putting sub by d) ts ts
 spine_unchanged sub by d ts inside = spine_stays ts (putting sub by d) (putting_leaves sub by d (InSpine ts) inside)
 
-pub type_unchanged : (sub : Spine) (by d : ℕ) (a : LfType) → IsWithin d (InType a) → SubstitutedType (putting sub by d) a a
+pub type_unchanged : (sub : Spine) (by d : ℕ) (a : LfType) → StaysWithin d (InType a) → SubstitutedType (putting sub by d) a a
 type_unchanged sub by d a inside = type_stays a (putting sub by d) (putting_leaves sub by d (InType a) inside)

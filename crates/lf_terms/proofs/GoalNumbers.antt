@@ -9,7 +9,7 @@ use Rattle.std.specs.Prelude.{AllPairs, find}
 use Rattle.std.specs.List.Sorted.{IsNonDecreasingBy, IsPartitionedBy, IsPartitionPoint}
 use Rattle.lf_definitions.specs.Typing.{LfGoal}
 use Rattle.lf_terms.specs.declared.goal.Goal.{Goal}
-use Rattle.lf_terms.specs.GoalNumbers.{NumbersRise, first_goal}
+use Rattle.lf_terms.specs.GoalNumbers.{NumbersRise, goal_numbered}
 use Rattle.lf_terms.specs.Targets.{goal_of}
 
 -- the same of the goals themselves
@@ -62,30 +62,30 @@ parted gs n rises = IsPartitionedBy-ltb (λ g. g.id) gs n not_falling
 
 -- what is found where the numbers rise, and what is not
 
-at_place : (gs : List Goal) (i : ℕ) (d : Goal) → Rise gs → i < length gs → Some (goal_of (get_or gs i d)) ≡ first_goal (map goal_of gs) (get_or gs i d).id
+at_place : (gs : List Goal) (i : ℕ) (d : Goal) → Rise gs → i < length gs → Some (goal_of (get_or gs i d)) ≡ goal_numbered (map goal_of gs) (get_or gs i d).id
 at_place [] i d rises within = absurd (omega arith)
-at_place (g ∷ gs) zero d rises within = ap (λ b. if b then Some (goal_of g) else first_goal (map goal_of gs) g.id) (sym (eq-eqb g.id g.id refl))
+at_place (g ∷ gs) zero d rises within = ap (λ b. if b then Some (goal_of g) else goal_numbered (map goal_of gs) g.id) (sym (eq-eqb g.id g.id refl))
 at_place (g ∷ gs) (suc i) d rises within =
     let n = (get_or gs i d).id in
     let less : g.id < n = rises 0 (suc i) d (omega arith) within in
     at_place gs i d (λ j k e lt small. rises (suc j) (suc k) e (omega arith) (omega arith)) (omega arith)
-    ∙ ap (λ b. if b then Some (goal_of g) else first_goal (map goal_of gs) n) (sym (ne_eqb g.id n (λ e. absurd (omega (arith, less, e)))))
+    ∙ ap (λ b. if b then Some (goal_of g) else goal_numbered (map goal_of gs) n) (sym (ne_eqb g.id n (λ e. absurd (omega (arith, less, e)))))
 
-pub found_at : (gs : List Goal) (i n : ℕ) (g : Goal) → NumbersRise (map goal_of gs) → i < length gs → g ≡ get_or gs i g → g.id ≡ n → Some (goal_of g) ≡ first_goal (map goal_of gs) n
+pub found_at : (gs : List Goal) (i n : ℕ) (g : Goal) → NumbersRise (map goal_of gs) → i < length gs → g ≡ get_or gs i g → g.id ≡ n → Some (goal_of g) ≡ goal_numbered (map goal_of gs) n
 found_at gs i n g rises within is same =
-    ap (λ x. Some (goal_of x)) is ∙ at_place gs i g (rise_of gs rises) within ∙ ap (first_goal (map goal_of gs)) (ap (λ x. x.id) (sym is) ∙ same)
+    ap (λ x. Some (goal_of x)) is ∙ at_place gs i g (rise_of gs rises) within ∙ ap (goal_numbered (map goal_of gs)) (ap (λ x. x.id) (sym is) ∙ same)
 
 pub differs_at : (gs : List Goal) (i n : ℕ) (g : Goal) → g ≡ get_or gs i g → g.id ≢ n → (d : Goal) → i < length gs → (get_or gs i d).id ≢ n
 differs_at gs i n g is differs d within e = differs (ap (λ x. x.id) (is ∙ get_or_default gs i g d within) ∙ e)
 
-absent : (gs : List Goal) (n : ℕ) → ((k : ℕ) (d : Goal) → k < length gs → (get_or gs k d).id ≢ n) → None ≡ first_goal (map goal_of gs) n
+absent : (gs : List Goal) (n : ℕ) → ((k : ℕ) (d : Goal) → k < length gs → (get_or gs k d).id ≢ n) → None ≡ goal_numbered (map goal_of gs) n
 absent [] n others = refl
 absent (g ∷ gs) n others =
     absent gs n (λ k d within. others (suc k) d (omega arith))
-    ∙ ap (λ b. if b then Some (goal_of g) else first_goal (map goal_of gs) n) (sym (ne_eqb g.id n (others 0 g (omega arith))))
+    ∙ ap (λ b. if b then Some (goal_of g) else goal_numbered (map goal_of gs) n) (sym (ne_eqb g.id n (others 0 g (omega arith))))
 
 pub not_found : (gs : List Goal) (place n : ℕ) → NumbersRise (map goal_of gs) → IsPartitionPoint (λ g. ltb g.id n ≡ true) (λ g. ltb g.id n ≡ false) gs place →
-    ((d : Goal) → place < length gs → (get_or gs place d).id ≢ n) → None ≡ first_goal (map goal_of gs) n
+    ((d : Goal) → place < length gs → (get_or gs place d).id ≢ n) → None ≡ goal_numbered (map goal_of gs) n
 not_found gs place n rises point differs = absent gs n others
   where
     others : (k : ℕ) (d : Goal) → k < length gs → (get_or gs k d).id ≢ n
@@ -102,12 +102,12 @@ not_found gs place n rises point differs = absent gs n others
         (cases_lt place k))
         (cases_lt k place)
 
-pub first_goal-map : (gs : List Goal) (n : ℕ) → option_map goal_of (find (λ g. nat_eq g.id n) gs) ≡ first_goal (map goal_of gs) n
-first_goal-map [] n = refl
-first_goal-map (g ∷ gs) n = each (nat_eq g.id n) (first_goal-map gs n)
+pub goal_numbered-map : (gs : List Goal) (n : ℕ) → option_map goal_of (find (λ g. nat_eq g.id n) gs) ≡ goal_numbered (map goal_of gs) n
+goal_numbered-map [] n = refl
+goal_numbered-map (g ∷ gs) n = each (nat_eq g.id n) (goal_numbered-map gs n)
   where
-    each : (b : Bool) → option_map goal_of (find (λ g. nat_eq g.id n) gs) ≡ first_goal (map goal_of gs) n →
-        option_map goal_of (if b then Some g else find (λ g. nat_eq g.id n) gs) ≡ (if b then Some (goal_of g) else first_goal (map goal_of gs) n)
+    each : (b : Bool) → option_map goal_of (find (λ g. nat_eq g.id n) gs) ≡ goal_numbered (map goal_of gs) n →
+        option_map goal_of (if b then Some g else find (λ g. nat_eq g.id n) gs) ≡ (if b then Some (goal_of g) else goal_numbered (map goal_of gs) n)
     each true e = refl
     each false e = e
 

@@ -11,7 +11,7 @@ use Rattle.lf_definitions.specs.Signatures.{LfEntry, family_entry, constant_entr
 use Rattle.lf_terms.specs.Types.{type_of}
 use Rattle.basics.specs.Places.{place_of}
 use Rattle.lf_terms.specs.Finding.{Finds}
-use Rattle.lf_terms.specs.Entries.{entry_of_family, entry_of_constant, entries_of, numbers_from, families_in, constants_in, Keeps}
+use Rattle.lf_terms.specs.Entries.{entry_of_family, entry_of_constant, signature_entries, numbers_from, families_in, constants_in, Keeps}
 use Rattle.basics.proofs.NamePlaces.{place_found, place_absent, place_new}
 use Rattle.lf_terms.specs.declared.found.Found.{Found}
 use Rattle.lf_terms.specs.declared.found.Found.TheVariants.{Family, Const, Absent}
@@ -20,10 +20,10 @@ use Rattle.lf_terms.specs.declared.signature.ConstEntry.{ConstEntry}
 
 -- the names, kinds and types of the entries are those that are kept
 pub record Parts (order : List Found) (fs : List FamilyEntry) (cs : List ConstEntry) : Type 0 where
-  pub family_names_are : family_names (entries_of order fs cs) ≡ map (λ f. f.name) fs
-  pub family_kinds_are : family_kinds (entries_of order fs cs) ≡ map (λ f. f.kind.binders) fs
-  pub constant_names_are : constant_names (entries_of order fs cs) ≡ map (λ c. c.name) cs
-  pub constant_types_are : constant_types (entries_of order fs cs) ≡ map (λ c. type_of c.ty) cs
+  pub family_names_are : family_names (signature_entries order fs cs) ≡ map (λ f. f.name) fs
+  pub family_kinds_are : family_kinds (signature_entries order fs cs) ≡ map (λ f. f.kind.binders) fs
+  pub constant_names_are : constant_names (signature_entries order fs cs) ≡ map (λ c. c.name) cs
+  pub constant_types_are : constant_types (signature_entries order fs cs) ≡ map (λ c. type_of c.ty) cs
 
 pub parts : (order : List Found) (fs : List FamilyEntry) (cs : List ConstEntry) → families_in order ≡ length fs → constants_in order ≡ length cs → Parts order fs cs
 parts [] [] [] p q = record { family_names_are = refl; family_kinds_are = refl; constant_names_are = refl; constant_types_are = refl }
@@ -58,7 +58,7 @@ parts (Absent ∷ order) fs cs p q =
 
 -- One more family.
 more_families : (order : List Found) (fs : List FamilyEntry) (cs : List ConstEntry) (k : ℕ) (f : FamilyEntry) → families_in order ≡ length fs → constants_in order ≡ length cs →
-    entries_of (order ++ Family k ∷ []) (fs ++ f ∷ []) cs ≡ entries_of order fs cs ++ entry_of_family f ∷ []
+    signature_entries (order ++ Family k ∷ []) (fs ++ f ∷ []) cs ≡ signature_entries order fs cs ++ entry_of_family f ∷ []
 more_families [] [] cs k f p q = refl
 more_families [] (g ∷ fs) cs k f p q = absurd (omega arith)
 more_families (Family n ∷ order) [] cs k f p q = absurd (omega arith)
@@ -69,7 +69,7 @@ more_families (Absent ∷ order) fs cs k f p q = more_families order fs cs k f p
 
 -- One more constant.
 more_constants : (order : List Found) (fs : List FamilyEntry) (cs : List ConstEntry) (k : ℕ) (c : ConstEntry) → families_in order ≡ length fs → constants_in order ≡ length cs →
-    entries_of (order ++ Const k ∷ []) fs (cs ++ c ∷ []) ≡ entries_of order fs cs ++ entry_of_constant c ∷ []
+    signature_entries (order ++ Const k ∷ []) fs (cs ++ c ∷ []) ≡ signature_entries order fs cs ++ entry_of_constant c ∷ []
 more_constants [] fs [] k c p q = refl
 more_constants [] fs (d ∷ cs) k c p q = absurd (omega arith)
 more_constants (Family n ∷ order) [] cs k c p q = absurd (omega arith)
@@ -186,19 +186,19 @@ keeps_nothing : Keeps [] [] [] [] [] []
 keeps_nothing = record { names_are = refl; order_is = refl; families_are = refl; constants_are = refl; shapes_are = refl; few = lit< tt; formed = formed_nothing }
 
 pub keeps_made : (names : List (List ℕ)) (order : List Found) (fs : List FamilyEntry) (cs : List ConstEntry) (shapes : List SimpleType) →
-    names ≡ [] → order ≡ [] → fs ≡ [] → cs ≡ [] → shapes ≡ [] → Keeps (entries_of order fs cs) names order fs cs shapes
+    names ≡ [] → order ≡ [] → fs ≡ [] → cs ≡ [] → shapes ≡ [] → Keeps (signature_entries order fs cs) names order fs cs shapes
 keeps_made names order fs cs shapes a b c d e = rw (a, b, c, d, e) keeps_nothing
 
 module _ (sig : LfSignature) (names : List (List ℕ)) (order : List Found) (fs : List FamilyEntry) (cs : List ConstEntry) (shapes : List SimpleType)
-    (view : entries_of order fs cs ≡ sig) (keeps : Keeps (entries_of order fs cs) names order fs cs shapes) where
+    (view : signature_entries order fs cs ≡ sig) (keeps : Keeps (signature_entries order fs cs) names order fs cs shapes) where
   have : Parts order fs cs
   have = parts order fs cs keeps.families_are keeps.constants_are
 
   pub size_is : length order ≡ length sig
-  size_is = ap length keeps.order_is ∙ length-numbers_from 0 0 (entries_of order fs cs) ∙ ap length view
+  size_is = ap length keeps.order_is ∙ length-numbers_from 0 0 (signature_entries order fs cs) ∙ ap length view
 
   pub few_entries : length order < 2 ^ 16
-  few_entries = let same : length (entries_of order fs cs) ≡ length sig = ap length view in omega (arith, keeps.few, size_is, same)
+  few_entries = let same : length (signature_entries order fs cs) ≡ length sig = ap length view in omega (arith, keeps.few, size_is, same)
 
   pub few_families : length fs < 2 ^ 16
   few_families = omega (arith, few_entries, families_in_order order, keeps.families_are)
@@ -272,18 +272,18 @@ module _ (sig : LfSignature) (names : List (List ℕ)) (order : List Found) (fs 
   -- One more family.
   module _ (f : FamilyEntry) (k : ℕ) (names2 : List (List ℕ)) (order2 : List Found) (fs2 : List FamilyEntry) (number : k ≡ length fs)
       (names_more : names2 ≡ names ++ f.name ∷ []) (order_more : order2 ≡ order ++ Family k ∷ []) (fs_more : fs2 ≡ fs ++ f ∷ []) where
-    pub family_added : entries_of order2 fs2 cs ≡ sig ++ entry_of_family f ∷ []
+    pub family_added : signature_entries order2 fs2 cs ≡ sig ++ entry_of_family f ∷ []
     family_added =
-        ap₂ (λ o l. entries_of o l cs) order_more fs_more ∙ more_families order fs cs k f keeps.families_are keeps.constants_are ∙ ap (λ s. s ++ entry_of_family f ∷ []) view
+        ap₂ (λ o l. signature_entries o l cs) order_more fs_more ∙ more_families order fs cs k f keeps.families_are keeps.constants_are ∙ ap (λ s. s ++ entry_of_family f ∷ []) view
 
-    pub keeps_family : IsNewName sig f.name → FormedEntry sig (entry_of_family f) → length sig < 65535 → Keeps (entries_of order2 fs2 cs) names2 order2 fs2 cs shapes
+    pub keeps_family : IsNewName sig f.name → FormedEntry sig (entry_of_family f) → length sig < 65535 → Keeps (signature_entries order2 fs2 cs) names2 order2 fs2 cs shapes
     keeps_family new formed room =
         let e = entry_of_family f in
         let counted : k ≡ 0 + length (family_names sig) = omega (arith, number, count_family_names) in
         let orders : families_in order2 ≡ families_in order + 1 = ap families_in order_more ∙ families_in-append order (Family k ∷ []) in
         let lengths : length fs2 ≡ length fs + 1 = ap length fs_more ∙ length-append fs (f ∷ []) in
         let others : constants_in order2 ≡ constants_in order + 0 = ap constants_in order_more ∙ constants_in-append order (Family k ∷ []) in
-        let sizes : length (entries_of order2 fs2 cs) ≡ length sig + 1 = ap length family_added ∙ length-append sig (e ∷ []) in
+        let sizes : length (signature_entries order2 fs2 cs) ≡ length sig + 1 = ap length family_added ∙ length-append sig (e ∷ []) in
         record {
           names_are = names_more ∙ ap (λ l. l ++ f.name ∷ []) names_kept ∙ sym (map-append name_of_entry sig (e ∷ [])) ∙ ap names_of (sym family_added);
           order_is =
@@ -295,25 +295,25 @@ module _ (sig : LfSignature) (names : List (List ℕ)) (order : List Found) (fs 
               keeps.shapes_are ∙ ap (λ s. shapes_of_types (constant_types s)) view ∙ ap shapes_of_types (sym (constant_types-family sig f.name f.kind.binders))
               ∙ ap (λ s. shapes_of_types (constant_types s)) (sym family_added);
           few = omega (arith, sizes, room);
-          formed = formed_more sig (entries_of order2 fs2 cs) e (subst FormedSignature view keeps.formed) new formed family_added;
+          formed = formed_more sig (signature_entries order2 fs2 cs) e (subst FormedSignature view keeps.formed) new formed family_added;
         }
 
   -- One more constant.
   module _ (c : ConstEntry) (k : ℕ) (names2 : List (List ℕ)) (order2 : List Found) (cs2 : List ConstEntry) (shapes2 : List SimpleType) (number : k ≡ length cs)
       (names_more : names2 ≡ names ++ c.name ∷ []) (order_more : order2 ≡ order ++ Const k ∷ []) (cs_more : cs2 ≡ cs ++ c ∷ []) where
-    pub constant_added : entries_of order2 fs cs2 ≡ sig ++ entry_of_constant c ∷ []
+    pub constant_added : signature_entries order2 fs cs2 ≡ sig ++ entry_of_constant c ∷ []
     constant_added =
-        ap₂ (λ o l. entries_of o fs l) order_more cs_more ∙ more_constants order fs cs k c keeps.families_are keeps.constants_are ∙ ap (λ s. s ++ entry_of_constant c ∷ []) view
+        ap₂ (λ o l. signature_entries o fs l) order_more cs_more ∙ more_constants order fs cs k c keeps.families_are keeps.constants_are ∙ ap (λ s. s ++ entry_of_constant c ∷ []) view
 
     pub keeps_constant : shapes2 ≡ shapes ++ shape_of (type_of c.ty) ∷ [] → IsNewName sig c.name → FormedEntry sig (entry_of_constant c) → length sig < 65535 →
-        Keeps (entries_of order2 fs cs2) names2 order2 fs cs2 shapes2
+        Keeps (signature_entries order2 fs cs2) names2 order2 fs cs2 shapes2
     keeps_constant shapes_more new formed room =
         let e = entry_of_constant c in
         let counted : k ≡ 0 + length (constant_names sig) = omega (arith, number, count_constant_names) in
         let orders : constants_in order2 ≡ constants_in order + 1 = ap constants_in order_more ∙ constants_in-append order (Const k ∷ []) in
         let lengths : length cs2 ≡ length cs + 1 = ap length cs_more ∙ length-append cs (c ∷ []) in
         let others : families_in order2 ≡ families_in order + 0 = ap families_in order_more ∙ families_in-append order (Const k ∷ []) in
-        let sizes : length (entries_of order2 fs cs2) ≡ length sig + 1 = ap length constant_added ∙ length-append sig (e ∷ []) in
+        let sizes : length (signature_entries order2 fs cs2) ≡ length sig + 1 = ap length constant_added ∙ length-append sig (e ∷ []) in
         record {
           names_are = names_more ∙ ap (λ l. l ++ c.name ∷ []) names_kept ∙ sym (map-append name_of_entry sig (e ∷ [])) ∙ ap names_of (sym constant_added);
           order_is =
@@ -326,5 +326,5 @@ module _ (sig : LfSignature) (names : List (List ℕ)) (order : List Found) (fs 
               ∙ sym (shapes_of_types-last (constant_types sig) (type_of c.ty)) ∙ ap shapes_of_types (sym (constant_types-constant sig c.name (type_of c.ty)))
               ∙ ap (λ s. shapes_of_types (constant_types s)) (sym constant_added);
           few = omega (arith, sizes, room);
-          formed = formed_more sig (entries_of order2 fs cs2) e (subst FormedSignature view keeps.formed) new formed constant_added;
+          formed = formed_more sig (signature_entries order2 fs cs2) e (subst FormedSignature view keeps.formed) new formed constant_added;
         }

@@ -15,13 +15,13 @@ abbrev pub entry_of_constant : ConstEntry → LfEntry
 entry_of_constant c = constant_entry c.name (type_of c.ty)
 
 -- The families and the constants, each the next of its kind, in this order.
-abbrev pub entries_of : List Found → List FamilyEntry → List ConstEntry → LfSignature
-entries_of [] fs cs = []
-entries_of (Family k ∷ order) (f ∷ fs) cs = entry_of_family f ∷ entries_of order fs cs
-entries_of (Family k ∷ order) [] cs = []
-entries_of (Const k ∷ order) fs (c ∷ cs) = entry_of_constant c ∷ entries_of order fs cs
-entries_of (Const k ∷ order) fs [] = []
-entries_of (Absent ∷ order) fs cs = entries_of order fs cs
+abbrev pub signature_entries : List Found → List FamilyEntry → List ConstEntry → LfSignature
+signature_entries [] fs cs = []
+signature_entries (Family k ∷ order) (f ∷ fs) cs = entry_of_family f ∷ signature_entries order fs cs
+signature_entries (Family k ∷ order) [] cs = []
+signature_entries (Const k ∷ order) fs (c ∷ cs) = entry_of_constant c ∷ signature_entries order fs cs
+signature_entries (Const k ∷ order) fs [] = []
+signature_entries (Absent ∷ order) fs cs = signature_entries order fs cs
 
 -- what each entry is found as, where the families and the constants are counted from these numbers
 abbrev pub numbers_from : ℕ → ℕ → LfSignature → List Found

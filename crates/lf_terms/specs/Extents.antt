@@ -24,12 +24,12 @@ pub record IsOutside (inside : Extent) (count : ℕ) (e : Extent) : Type 0 where
   pub metas_stay : e.metas ≡ inside.metas
 
 -- No variable that is outside so many binders occurs.
-abbrev pub IsWithin : ℕ → (LfHead → Type 0) → Type 0
-IsWithin depth Occurring = (n : ℕ) → depth ≤ n → Occurring (bound n) → ⊥
+abbrev pub StaysWithin : ℕ → (LfHead → Type 0) → Type 0
+StaysWithin depth Occurring = (n : ℕ) → depth ≤ n → Occurring (bound n) → ⊥
 
 -- No metavariable occurs.
-abbrev pub HasNoMetavariable : (LfHead → Type 0) → Type 0
-HasNoMetavariable Occurring = (g : ℕ) → Occurring (metavariable g) → ⊥
+abbrev pub ExcludesMetavariables : (LfHead → Type 0) → Type 0
+ExcludesMetavariables Occurring = (g : ℕ) → Occurring (metavariable g) → ⊥
 
 -- the heads that occur in a term, a list of terms, a type or a context
 abbrev pub InTerm : LfTerm → LfHead → Type 0

@@ -6,5 +6,5 @@ use Rattle.lf_definitions.specs.Typing.{LfGoal}
 abbrev pub NumbersRise : List LfGoal → Type 0
 NumbersRise goals = AllPairs (λ g h. g.id < h.id) goals
 
-abbrev pub first_goal : List LfGoal → ℕ → Option LfGoal
-first_goal goals n = find (λ g. nat_eq g.id n) goals
+abbrev pub goal_numbered : List LfGoal → ℕ → Option LfGoal
+goal_numbered goals n = find (λ g. nat_eq g.id n) goals

@@ -2,7 +2,7 @@
 
 ghost use Rattle.std.specs.Prelude.{◌≡◌, ◌↔◌, ◌++◌, [], ◌∷◌, IsTrue, IfOk, OnOk, OnErr, length, map, option_map};
 ghost use Rattle.lf_definitions.specs.ShapedGoals.{shapes_of_goals};
-ghost use Rattle.lf_terms.specs.GoalNumbers.{first_goal};
+ghost use Rattle.lf_terms.specs.GoalNumbers.{goal_numbered};
 ghost use Rattle.lf_terms.specs.Targets.{goal_of};
 
 use crate::goal_numbers::{find_anywhere, find_rising, is_past, numbers_rise};
@@ -141,7 +141,7 @@ impl GoalList {
     /// The first goal of a number, if there is one. Where the numbers rise it stands at the place of its number
     /// or is found by halving, and elsewhere by a walk over the list. It takes no memory.
     pub fn find(&self, id: u32) -> Option<&Goal>
-        ensures { option_map (λ g. goal_of g.now) result ≡ first_goal self.now id }
+        ensures { option_map (λ g. goal_of g.now) result ≡ goal_numbered self.now id }
     {
         let goals = self.items.as_slice();
         if self.rises {

@@ -1,7 +1,7 @@
 //! Goals by their numbers.
 
 ghost use Rattle.std.specs.Prelude.{◌≡◌, ◌++◌, [], ◌∷◌, IsTrue, map, option_map};
-ghost use Rattle.lf_terms.specs.GoalNumbers.{NumbersRise, first_goal};
+ghost use Rattle.lf_terms.specs.GoalNumbers.{NumbersRise, goal_numbered};
 ghost use Rattle.lf_terms.specs.Targets.{goal_of};
 
 use crate::goal::Goal;
@@ -31,7 +31,7 @@ pub fn numbers_rise(goals: &[Goal]) -> bool
 
 // The first goal of a number, by a walk over the list.
 pub fn find_anywhere(goals: &[Goal], id: u32) -> Option<&Goal>
-    ensures { option_map (λ g. goal_of g.now) result ≡ first_goal (map goal_of goals.now) id }
+    ensures { option_map (λ g. goal_of g.now) result ≡ goal_numbered (map goal_of goals.now) id }
 {
     goals.iter().find(|goal| goal.id == id)
 }
@@ -40,7 +40,7 @@ pub fn find_anywhere(goals: &[Goal], id: u32) -> Option<&Goal>
 // their places, and else by halving.
 pub fn find_rising(goals: &[Goal], id: u32) -> Option<&Goal>
     requires { NumbersRise (map goal_of goals.now) }
-    ensures { option_map (λ g. goal_of g.now) result ≡ first_goal (map goal_of goals.now) id }
+    ensures { option_map (λ g. goal_of g.now) result ≡ goal_numbered (map goal_of goals.now) id }
 {
     let own = id as usize;
     if own < goals.len() {

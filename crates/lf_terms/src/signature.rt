@@ -49,11 +49,11 @@ impl Model for Signature {
 
     ghost coded = { signature_code };
 
-    ghost use Rattle.lf_terms.specs.Entries.{entries_of, Keeps};
+    ghost use Rattle.lf_terms.specs.Entries.{signature_entries, Keeps};
 
-    ghost view = { λ a. entries_of a.order.items a.families.items a.constants.items };
+    ghost view = { λ a. signature_entries a.order.items a.families.items a.constants.items };
 
-    ghost invariant = { λ a. Keeps (entries_of a.order.items a.families.items a.constants.items) a.names a.order.items a.families.items a.constants.items a.shapes };
+    ghost invariant = { λ a. Keeps (signature_entries a.order.items a.families.items a.constants.items) a.names a.order.items a.families.items a.constants.items a.shapes };
 }
 
 impl Signature {

@@ -2,7 +2,7 @@
 
 ghost use Rattle.std.specs.Prelude.{◌≡◌, IfOk, IsTrue, false};
 ghost use Rattle.lf_definitions.specs.Syntax.{no_args, args_count};
-ghost use Rattle.lf_terms.specs.Extents.{Covers, IsWithin, HasNoMetavariable, InTerm, InSpine};
+ghost use Rattle.lf_terms.specs.Extents.{Covers, StaysWithin, ExcludesMetavariables, InTerm, InSpine};
 ghost use Rattle.lf_terms.specs.Terms.{term_of, spine_of, kept_spine};
 
 use crate::extent::Extent;
@@ -106,7 +106,7 @@ impl Term {
 
     /// Whether a metavariable may occur, in one step.
     pub fn has_metas(&self) -> bool
-        ensures { result ≡ false → HasNoMetavariable (InTerm (term_of self.now)) }
+        ensures { result ≡ false → ExcludesMetavariables (InTerm (term_of self.now)) }
     {
         self.extent().has_metas()
     }
@@ -149,7 +149,7 @@ impl Body {
 
     /// Whether no variable can occur that is outside so many binders, in one step.
     pub fn is_within(&self, depth: u32) -> bool
-        ensures { IsTrue result → IsWithin depth (InTerm self.now) }
+        ensures { IsTrue result → StaysWithin depth (InTerm self.now) }
     {
         self.extent().is_within(depth)
     }
@@ -214,14 +214,14 @@ impl Terms {
 
     /// Whether no variable can occur that is outside so many binders, in one step.
     pub fn is_within(&self, depth: u32) -> bool
-        ensures { IsTrue result → IsWithin depth (InSpine self.now) }
+        ensures { IsTrue result → StaysWithin depth (InSpine self.now) }
     {
         self.extent().is_within(depth)
     }
 
     /// Whether a metavariable may occur, in one step.
     pub fn has_metas(&self) -> bool
-        ensures { result ≡ false → HasNoMetavariable (InSpine self.now) }
+        ensures { result ≡ false → ExcludesMetavariables (InSpine self.now) }
     {
         self.extent().has_metas()
     }

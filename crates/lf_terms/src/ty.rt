@@ -1,7 +1,7 @@
 //! Types and kinds.
 
 ghost use Rattle.std.specs.Prelude.{◌≡◌, IfOk, IsTrue, false, [], length};
-ghost use Rattle.lf_terms.specs.Extents.{Covers, IsWithin, HasNoMetavariable, InType, InContext};
+ghost use Rattle.lf_terms.specs.Extents.{Covers, StaysWithin, ExcludesMetavariables, InType, InContext};
 ghost use Rattle.lf_terms.specs.Types.{type_of, types_of, atom_of};
 
 use crate::extent::Extent;
@@ -92,14 +92,14 @@ impl Ty {
 
     /// Whether no variable can occur that is outside so many binders, in one step.
     pub fn is_within(&self, depth: u32) -> bool
-        ensures { IsTrue result → IsWithin depth (InType (type_of self.now)) }
+        ensures { IsTrue result → StaysWithin depth (InType (type_of self.now)) }
     {
         self.extent().is_within(depth)
     }
 
     /// Whether a metavariable may occur, in one step.
     pub fn has_metas(&self) -> bool
-        ensures { result ≡ false → HasNoMetavariable (InType (type_of self.now)) }
+        ensures { result ≡ false → ExcludesMetavariables (InType (type_of self.now)) }
     {
         self.extent().has_metas()
     }
@@ -197,7 +197,7 @@ impl Tys {
 
     /// Whether a metavariable may occur, in one step.
     pub fn has_metas(&self) -> bool
-        ensures { result ≡ false → HasNoMetavariable (InContext self.now) }
+        ensures { result ≡ false → ExcludesMetavariables (InContext self.now) }
     {
         self.extent().has_metas()
     }

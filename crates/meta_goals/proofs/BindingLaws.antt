@@ -15,7 +15,7 @@ use Rattle.lf_definitions.specs.Instantiation.{instantiating}
 use Rattle.lf_definitions.proofs.Options.{Some-Some}
 use Rattle.lf_definitions.proofs.Telescopes.{Goes-up_by}
 use Rattle.lf_definitions.proofs.Typing.{shape_of-pis}
-use Rattle.lf_terms.specs.Extents.{IsWithin, InTerm}
+use Rattle.lf_terms.specs.Extents.{StaysWithin, InTerm}
 use Rattle.head_laws.proofs.Assignments.{up_by-closed}
 use Rattle.meta_goals.specs.Bindings.{LfBinding, assigning, binding_for}
 use Rattle.meta_goals.specs.Laws.{BoundGoalsHaveTheirShapes, BoundBodiesAreClosed, AssignmentsGoUnderVariables}
@@ -63,7 +63,7 @@ occurs_under (suc m) n b o =
     inside : OccursIn (bound n) (lam (lams m b)) → OccursIn (bound (suc n)) (lams m b)
     inside (occurs_lam h c p) = p
 
-closed_step : (n : ℕ) (c : Bool) (first : LfBinding) (rest : Option LfTerm) (u : LfTerm) → IsWithin (length first.shapes) (InTerm first.bound_body) → (if c then Some (put_by first) else rest) ≡ Some u →
+closed_step : (n : ℕ) (c : Bool) (first : LfBinding) (rest : Option LfTerm) (u : LfTerm) → StaysWithin (length first.shapes) (InTerm first.bound_body) → (if c then Some (put_by first) else rest) ≡ Some u →
     (rest ≡ Some u → OccursIn (bound n) u → ⊥) → OccursIn (bound n) u → ⊥
 closed_step n true first rest u within e later o =
     within (length first.shapes + n) (omega arith) (occurs_under (length first.shapes) n first.bound_body (subst (OccursIn (bound n)) (sym (Some-Some e)) o))
@@ -72,8 +72,8 @@ closed_step n false first rest u within e later o = later e o
 pub bound_bodies_are_closed : BoundBodiesAreClosed
 bound_bodies_are_closed [] within g n u e o = cc
 bound_bodies_are_closed (b ∷ rest) within g n u e o =
-    closed_step n (nat_eq b.number g) b (assigning rest g) u (All-head (λ x. IsWithin (length x.shapes) (InTerm x.bound_body)) b rest within) e
-    (λ found here. bound_bodies_are_closed rest (All-tail (λ x. IsWithin (length x.shapes) (InTerm x.bound_body)) b rest within) g n u found here) o
+    closed_step n (nat_eq b.number g) b (assigning rest g) u (All-head (λ x. StaysWithin (length x.shapes) (InTerm x.bound_body)) b rest within) e
+    (λ found here. bound_bodies_are_closed rest (All-tail (λ x. StaysWithin (length x.shapes) (InTerm x.bound_body)) b rest within) g n u found here) o
 
 pub assignments_go_under_variables : AssignmentsGoUnderVariables
 assignments_go_under_variables sig goals others σ p closed goes ctx =

@@ -10,7 +10,7 @@ use Rattle.lf_definitions.proofs.Expansion.{Applied-lams}
 use Rattle.lf_definitions.proofs.Telescopes.{own_variables_unit, args_count-length, next_by-bound, next_by-constant, next_by-metavariable}
 use Rattle.head_laws.proofs.Heads.{lifted-next}
 use Rattle.head_laws.proofs.Occurrence.{rename-agree}
-use Rattle.lf_terms.specs.Extents.{IsWithin, InTerm}
+use Rattle.lf_terms.specs.Extents.{StaysWithin, InTerm}
 use Rattle.lf_terms.specs.declared.term.Term.{Term}
 use Rattle.lf_terms.specs.declared.shape.Shape.{Shape}
 use Rattle.lf_terms.specs.Terms.{term_of, spine_of}
@@ -39,7 +39,7 @@ lifted_by-local (suc n) i ξ less = at_place (last_or_less less) (λ smaller. li
     at_place (inr less) smaller = smaller less
 
 -- A term in which no variable from outside occurs doesn't change where those are renamed.
-raised_stays : (n : ℕ) (b : LfTerm) → IsWithin n (InTerm b) → rename (lifted_by n (next_by n)) b ≡ b
+raised_stays : (n : ℕ) (b : LfTerm) → StaysWithin n (InTerm b) → rename (lifted_by n (next_by n)) b ≡ b
 raised_stays n b within = rename-agree b (lifted_by n (next_by n)) same_head each ∙ rename-same_head b
   where
     less_or : (i : ℕ) → (i < n) ⊎ (n ≤ i)

@@ -15,7 +15,7 @@ use Rattle.head_laws.specs.AssignmentLaws.{AssignsClosedTerms}
 use Rattle.head_laws.proofs.Assignments.{up_by-closed}
 use Rattle.lf_terms.specs.declared.term.Term.{Term}
 use Rattle.lf_terms.specs.Terms.{term_of, spine_of}
-use Rattle.lf_terms.specs.Extents.{HasNoMetavariable, InSpine}
+use Rattle.lf_terms.specs.Extents.{ExcludesMetavariables, InSpine}
 use Rattle.lf_terms.proofs.Spines.{arg_at-spine_of, take_more_spine, length_of_spine, spine_of-append}
 use Rattle.lf_terms.proofs.ShapeLists.{take_read}
 use Rattle.lf_terms.proofs.Putting.{put_arg}
@@ -103,7 +103,7 @@ module _ (bindings : List LfBinding) where
       in_scope (ArgsAreShaped (spine_of xs)) (TermIsShaped (term_of x)) p (argument_of p.shaped.1 i (term_of x) (arg_at-spine_of xs i x within is))
 
   -- A list in which no metavariable occurs stays.
-  pub spine_without : (ts : Spine) → HasNoMetavariable (InSpine ts) → InstantiatedSpine (assigning bindings) ts ts
+  pub spine_without : (ts : Spine) → ExcludesMetavariables (InSpine ts) → InstantiatedSpine (assigning bindings) ts ts
   spine_without ts none = spine_stays ts ι each
     where
       each : (h : LfHead) → InSpine ts h → ι h ≡ stays h

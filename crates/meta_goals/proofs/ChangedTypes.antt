@@ -15,7 +15,7 @@ use Rattle.head_laws.proofs.Replacing.{SubstitutedContext-agree, SubstitutedCont
 use Rattle.head_laws.proofs.Results.{unique_context, total_context, unique_goal, total_goal, SubstitutedType-goal_type}
 use Rattle.lf_terms.specs.declared.ty.Ty.{Ty}
 use Rattle.lf_terms.specs.Types.{type_of, types_of}
-use Rattle.lf_terms.specs.Extents.{HasNoMetavariable, InContext}
+use Rattle.lf_terms.specs.Extents.{ExcludesMetavariables, InContext}
 use Rattle.lf_terms.proofs.TypeLists.{types_of-append, types_of-take_more, length_of_types}
 use Rattle.lf_terms.proofs.ShapeLists.{take_read}
 use Rattle.meta_goals.specs.Bindings.{LfBinding, assigning}
@@ -69,7 +69,7 @@ module _ (bindings : List LfBinding) where
       in_scope_under bindings (GoalIsShaped g) (TypeIsShaped (atomic g.target)) (shapes_of_types g.context) p (p.shaped.0, p.shaped.1.1)
 
   -- Types in which no metavariable occurs stay.
-  pub context_without : (ctx : Context) → HasNoMetavariable (InContext ctx) → InstantiatedContext (assigning bindings) ctx ctx
+  pub context_without : (ctx : Context) → ExcludesMetavariables (InContext ctx) → InstantiatedContext (assigning bindings) ctx ctx
   context_without ctx none = SubstitutedContext-agree (SubstitutedContext-stays ctx) ι each
     where
       each : (h : LfHead) → InContext ctx h → stays h ≡ ι h

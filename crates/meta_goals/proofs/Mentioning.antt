@@ -6,7 +6,7 @@ use Rattle.lf_terms.specs.declared.term.Term.{Term}
 use Rattle.lf_terms.specs.declared.ty.Ty.{Ty}
 use Rattle.lf_terms.specs.Terms.{term_of, spine_of}
 use Rattle.lf_terms.specs.Types.{type_of, types_of}
-use Rattle.lf_terms.specs.Extents.{HasNoMetavariable, InSpine, InContext}
+use Rattle.lf_terms.specs.Extents.{ExcludesMetavariables, InSpine, InContext}
 use Rattle.lf_terms.proofs.Spines.{take_more_spine}
 use Rattle.lf_terms.proofs.TypeLists.{types_of-take_more}
 
@@ -14,10 +14,10 @@ falsely : {A : Type 0} → IsTrue false → A
 falsely h = absurd cc
 
 -- No metavariable occurs.
-pub none_in_spine : (g : ℕ) (ts : Spine) → HasNoMetavariable (InSpine ts) → IsTrue false ↔ OccursInSpine (metavariable g) ts
+pub none_in_spine : (g : ℕ) (ts : Spine) → ExcludesMetavariables (InSpine ts) → IsTrue false ↔ OccursInSpine (metavariable g) ts
 none_in_spine g ts none = (falsely, λ o. absurd (none g o))
 
-pub none_in_context : (g : ℕ) (ctx : Context) → HasNoMetavariable (InContext ctx) → IsTrue false ↔ OccursInContext (metavariable g) ctx
+pub none_in_context : (g : ℕ) (ctx : Context) → ExcludesMetavariables (InContext ctx) → IsTrue false ↔ OccursInContext (metavariable g) ctx
 none_in_context g ctx none = (falsely, λ o. absurd (none g o))
 
 -- An abstraction, and a spine.

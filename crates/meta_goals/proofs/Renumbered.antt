@@ -21,7 +21,7 @@ use Rattle.lf_terms.specs.declared.ty.Ty.{Ty}
 use Rattle.lf_terms.specs.Targets.{goal_of}
 use Rattle.lf_terms.specs.Terms.{term_of, spine_of}
 use Rattle.lf_terms.specs.Types.{type_of, types_of}
-use Rattle.lf_terms.specs.Extents.{HasNoMetavariable, InTerm, InSpine, InContext}
+use Rattle.lf_terms.specs.Extents.{ExcludesMetavariables, InTerm, InSpine, InContext}
 use Rattle.lf_terms.proofs.Spines.{take_more_spine, spine_of-append}
 use Rattle.lf_terms.proofs.TypeLists.{types_of-append, types_of-take_more}
 use Rattle.lf_terms.proofs.ShapeLists.{take_read}
@@ -31,19 +31,19 @@ use Rattle.head_laws.specs.Renumbering.{place_of_number}
 use Rattle.std.proofs.lemmas.List.Kept.{AllPairs-cons}
 
 module _ (ρ : ℕ → ℕ) where
-  kept : (Occurring : LfHead → Type 0) → HasNoMetavariable Occurring → (h : LfHead) → Occurring h → metavariables ρ h ≡ same_head h
+  kept : (Occurring : LfHead → Type 0) → ExcludesMetavariables Occurring → (h : LfHead) → Occurring h → metavariables ρ h ≡ same_head h
   kept Occurring none (bound n) here = refl
   kept Occurring none (constant c) here = refl
   kept Occurring none (metavariable g) here = absurd (none g here)
 
   -- What has no metavariable stays.
-  pub term_kept : (t : LfTerm) → HasNoMetavariable (InTerm t) → t ≡ rename (metavariables ρ) t
+  pub term_kept : (t : LfTerm) → ExcludesMetavariables (InTerm t) → t ≡ rename (metavariables ρ) t
   term_kept t none = sym (rename-agree t (metavariables ρ) same_head (kept (InTerm t) none) ∙ rename-same_head t)
 
-  pub spine_kept : (ts : Spine) → HasNoMetavariable (InSpine ts) → ts ≡ rename_spine (metavariables ρ) ts
+  pub spine_kept : (ts : Spine) → ExcludesMetavariables (InSpine ts) → ts ≡ rename_spine (metavariables ρ) ts
   spine_kept ts none = sym (rename_spine-agree ts (metavariables ρ) same_head (kept (InSpine ts) none) ∙ rename_spine-same_head ts)
 
-  pub context_kept : (ctx : Context) → HasNoMetavariable (InContext ctx) → ctx ≡ rename_context (metavariables ρ) ctx
+  pub context_kept : (ctx : Context) → ExcludesMetavariables (InContext ctx) → ctx ≡ rename_context (metavariables ρ) ctx
   context_kept ctx none = sym (rename_context-agree ctx (metavariables ρ) same_head (kept (InContext ctx) none) ∙ rename_context-same_head ctx)
 
   pub lam_renamed : (t b r made : LfTerm) → t ≡ lam b → r ≡ rename (metavariables ρ) b → made ≡ r → lam made ≡ rename (metavariables ρ) t

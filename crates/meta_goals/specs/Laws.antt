@@ -6,7 +6,7 @@ use Rattle.lf_definitions.specs.Signatures.{LfSignature}
 use Rattle.lf_definitions.specs.ShapedGoals.{scope_in}
 use Rattle.lf_definitions.specs.Replacements.{Goes}
 use Rattle.lf_definitions.specs.Instantiation.{Assignment, instantiating}
-use Rattle.lf_terms.specs.Extents.{IsWithin, InTerm}
+use Rattle.lf_terms.specs.Extents.{StaysWithin, InTerm}
 use Rattle.head_laws.specs.AssignmentLaws.{AssignsClosedTerms}
 use Rattle.meta_goals.specs.Bindings.{LfBinding, assigning, binding_for}
 
@@ -22,7 +22,7 @@ BoundGoalsHaveTheirShapes =
 
 -- Where no body speaks of a variable but its own, closed terms are assigned.
 abbrev pub BoundBodiesAreClosed : Type 0
-BoundBodiesAreClosed = (bindings : List LfBinding) → All (λ b. IsWithin (length b.shapes) (InTerm b.bound_body)) bindings → AssignsClosedTerms (assigning bindings)
+BoundBodiesAreClosed = (bindings : List LfBinding) → All (λ b. StaysWithin (length b.shapes) (InTerm b.bound_body)) bindings → AssignsClosedTerms (assigning bindings)
 
 -- Closed terms may be put under further variables.
 abbrev pub AssignmentsGoUnderVariables : Type 0

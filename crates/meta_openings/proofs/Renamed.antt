@@ -10,7 +10,7 @@ use Rattle.head_laws.proofs.Heads.{lifted-next}
 use Rattle.head_laws.proofs.Occurrence.{rename_spine-agree, rename_type-agree}
 use Rattle.lf_terms.specs.declared.term.Term.{Term}
 use Rattle.lf_terms.specs.declared.ty.Ty.{Ty}
-use Rattle.lf_terms.specs.Extents.{IsWithin, InSpine, InType}
+use Rattle.lf_terms.specs.Extents.{StaysWithin, InSpine, InType}
 use Rattle.lf_terms.specs.Terms.{term_of, spine_of}
 use Rattle.lf_terms.specs.Types.{type_of, types_of}
 use Rattle.lf_terms.proofs.Spines.{take_more_spine, spine_of-append}
@@ -64,7 +64,7 @@ module _ (before : List ℕ) (count : ℕ) where
   below_or_not : (n depth : ℕ) → (n < depth) ⊎ (depth ≤ n)
   below_or_not n depth = grind arith
 
-  within_stays : (depth : ℕ) (Occurring : LfHead → Type 0) → IsWithin depth Occurring → (h : LfHead) → Occurring h → Numbers depth h ≡ same_head h
+  within_stays : (depth : ℕ) (Occurring : LfHead → Type 0) → StaysWithin depth Occurring → (h : LfHead) → Occurring h → Numbers depth h ≡ same_head h
   within_stays depth Occurring inside (bound n) o = either (below_or_not n depth)
     where
       either : (n < depth) ⊎ (depth ≤ n) → Numbers depth (bound n) ≡ bound n
@@ -74,10 +74,10 @@ module _ (before : List ℕ) (count : ℕ) where
   within_stays depth Occurring inside (metavariable g) o = sym (renamed_metavariable depth g)
 
   -- What is within the local binders is shared.
-  pub spine_within : (depth : ℕ) (ts : Spine) → IsWithin depth (InSpine ts) → ts ≡ rename_spine (Numbers depth) ts
+  pub spine_within : (depth : ℕ) (ts : Spine) → StaysWithin depth (InSpine ts) → ts ≡ rename_spine (Numbers depth) ts
   spine_within depth ts inside = sym (rename_spine-agree ts (Numbers depth) same_head (within_stays depth (InSpine ts) inside) ∙ rename_spine-same_head ts)
 
-  pub type_within : (depth : ℕ) (a : LfType) → IsWithin depth (InType a) → a ≡ rename_type (Numbers depth) a
+  pub type_within : (depth : ℕ) (a : LfType) → StaysWithin depth (InType a) → a ≡ rename_type (Numbers depth) a
   type_within depth a inside = sym (rename_type-agree a (Numbers depth) same_head (within_stays depth (InType a) inside) ∙ rename_type-same_head a)
 
   pub renamed_lam : (depth : ℕ) (t b r : LfTerm) → t ≡ lam b → r ≡ rename (Numbers (depth + 1)) b → lam r ≡ rename (Numbers depth) t

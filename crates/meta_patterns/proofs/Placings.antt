@@ -12,7 +12,7 @@ use Rattle.lf_terms.specs.declared.term.Term.{Term}
 use Rattle.lf_terms.specs.declared.head.Head.{Head}
 use Rattle.lf_terms.specs.declared.head.Head.TheVariants.{Const, Meta}
 use Rattle.lf_terms.specs.Terms.{head_of, term_of, spine_of}
-use Rattle.lf_terms.specs.Extents.{IsWithin, InTerm, InSpine}
+use Rattle.lf_terms.specs.Extents.{StaysWithin, InTerm, InSpine}
 use Rattle.lf_terms.proofs.Spines.{take_more_spine, spine_of-append}
 use Rattle.head_laws.specs.Renumbering.{place_of_number}
 use Rattle.head_laws.proofs.Occurrence.{rename-agree, rename_spine-agree}
@@ -85,7 +85,7 @@ pub lifted_one_more : (depth : ℕ) (ξ : Renaming) → lifted_by (depth + 1) ξ
 lifted_one_more depth ξ = ap (λ k. lifted_by k ξ) (add-one depth) ∙ sym (lifted_last depth ξ)
 
 -- What mentions local variables alone stays.
-stays_within : (depth : ℕ) (ns : List ℕ) (Occurring : LfHead → Type 0) → IsWithin depth Occurring → (h : LfHead) → Occurring h → lifted_by depth (placed ns) h ≡ h
+stays_within : (depth : ℕ) (ns : List ℕ) (Occurring : LfHead → Type 0) → StaysWithin depth Occurring → (h : LfHead) → Occurring h → lifted_by depth (placed ns) h ≡ h
 stays_within depth ns Occurring within (bound n) o = either (cases_lt n depth)
   where
     either : (n < depth) ⊎ (depth ≤ n) → lifted_by depth (placed ns) (bound n) ≡ bound n
@@ -94,10 +94,10 @@ stays_within depth ns Occurring within (bound n) o = either (cases_lt n depth)
 stays_within depth ns Occurring within (constant c) o = lifted_constant depth c (placed ns) refl
 stays_within depth ns Occurring within (metavariable g) o = lifted_metavariable depth g (placed ns) refl
 
-pub term_within : (depth : ℕ) (ns : List ℕ) (t : LfTerm) → IsWithin depth (InTerm t) → rename (lifted_by depth (placed ns)) t ≡ t
+pub term_within : (depth : ℕ) (ns : List ℕ) (t : LfTerm) → StaysWithin depth (InTerm t) → rename (lifted_by depth (placed ns)) t ≡ t
 term_within depth ns t within = rename-agree t (lifted_by depth (placed ns)) (λ h. h) (stays_within depth ns (InTerm t) within) ∙ rename-same_head t
 
-pub spine_within : (depth : ℕ) (ns : List ℕ) (ts : Spine) → IsWithin depth (InSpine ts) → rename_spine (lifted_by depth (placed ns)) ts ≡ ts
+pub spine_within : (depth : ℕ) (ns : List ℕ) (ts : Spine) → StaysWithin depth (InSpine ts) → rename_spine (lifted_by depth (placed ns)) ts ≡ ts
 spine_within depth ns ts within = rename_spine-agree ts (lifted_by depth (placed ns)) (λ h. h) (stays_within depth ns (InSpine ts) within) ∙ rename_spine-same_head ts
 
 -- The variables of a context in order stay.

@@ -4,7 +4,7 @@ use Rattle.std.proofs.lemmas.Bool.{cases_lt, and_parts}
 use Rattle.std.proofs.Math.Bool.{and-false}
 use Rattle.lf_definitions.specs.Syntax.{LfHead, bound, constant, LfTerm, lam, at, Spine, no_args, arg}
 use Rattle.lf_definitions.specs.Occurrence.{OccursIn, occurs_args, OccursInSpine}
-use Rattle.lf_terms.specs.Extents.{IsWithin, InTerm, InSpine}
+use Rattle.lf_terms.specs.Extents.{StaysWithin, InTerm, InSpine}
 use Rattle.head_laws.specs.Mentions.{is_rigid}
 use Rattle.unification.specs.Patterns.{has_number, under_binder, is_among, is_over, is_over_spine, escapes_from, spine_escapes_from}
 use Rattle.unification.proofs.Tests.{is_among-next, is_over-from}
@@ -33,17 +33,17 @@ below_under depth limit total ns below small n less = either (cases_lt n depth)
     either (inr far) = has_outside depth n ns far ∙ below (n - depth) (omega (arith, far, small, less))
 
 -- All variables that occur are below such a number.
-below_occurs : (limit : ℕ) (ns : List ℕ) (Occurring : LfHead → Type 0) → HasBelow ns limit → IsWithin limit Occurring → (n : ℕ) → Occurring (bound n) → has_number ns n ≡ true
+below_occurs : (limit : ℕ) (ns : List ℕ) (Occurring : LfHead → Type 0) → HasBelow ns limit → StaysWithin limit Occurring → (n : ℕ) → Occurring (bound n) → has_number ns n ≡ true
 below_occurs limit ns Occurring below within n here = either (cases_lt n limit)
   where
     either : (n < limit) ⊎ (limit ≤ n) → has_number ns n ≡ true
     either (inl inside) = below n inside
     either (inr far) = absurd (within n far here)
 
-pub within_over : (limit : ℕ) (ns : List ℕ) (t : LfTerm) → HasBelow ns limit → IsWithin limit (InTerm t) → is_over ns t ≡ true
+pub within_over : (limit : ℕ) (ns : List ℕ) (t : LfTerm) → HasBelow ns limit → StaysWithin limit (InTerm t) → is_over ns t ≡ true
 within_over limit ns t below within = is_over-from t ns (below_occurs limit ns (InTerm t) below within)
 
-pub within_over_spine : (limit : ℕ) (ns : List ℕ) (ts : Spine) → HasBelow ns limit → IsWithin limit (InSpine ts) → is_over_spine ns ts ≡ true
+pub within_over_spine : (limit : ℕ) (ns : List ℕ) (ts : Spine) → HasBelow ns limit → StaysWithin limit (InSpine ts) → is_over_spine ns ts ≡ true
 within_over_spine limit ns ts below within = is_over-from (at (constant 0) ts) ns (λ n o. each n (in_args n o))
   where
     in_args : (n : ℕ) → OccursIn (bound n) (at (constant 0) ts) → OccursInSpine (bound n) ts
@@ -65,8 +65,8 @@ mutual
       let both = and_parts (is_over ns t) (is_over_spine ns ts) e in
       ap (λ b. b || spine_escapes_from ns ts) (over_no_escape t ns both.0) ∙ over_no_escape_spine ts ns both.1
 
-pub within_no_escape : (limit : ℕ) (ns : List ℕ) (t : LfTerm) → HasBelow ns limit → IsWithin limit (InTerm t) → escapes_from ns t ≡ false
+pub within_no_escape : (limit : ℕ) (ns : List ℕ) (t : LfTerm) → HasBelow ns limit → StaysWithin limit (InTerm t) → escapes_from ns t ≡ false
 within_no_escape limit ns t below within = over_no_escape t ns (within_over limit ns t below within)
 
-pub within_no_escape_spine : (limit : ℕ) (ns : List ℕ) (ts : Spine) → HasBelow ns limit → IsWithin limit (InSpine ts) → spine_escapes_from ns ts ≡ false
+pub within_no_escape_spine : (limit : ℕ) (ns : List ℕ) (ts : Spine) → HasBelow ns limit → StaysWithin limit (InSpine ts) → spine_escapes_from ns ts ≡ false
 within_no_escape_spine limit ns ts below within = over_no_escape_spine ts ns (within_over_spine limit ns ts below within)

@@ -7,7 +7,7 @@ use Rattle.lf_terms.specs.Terms.{head_of, term_of, spine_of}
 use Rattle.lf_terms.specs.Shapes.{simple_types_of}
 use Rattle.lf_terms.proofs.Spines.{args_count-spine_of, arg_at-spine_of, take_more_spine, spine_of-append}
 use Rattle.lf_terms.proofs.Putting.{term_cost, put_under, puts_under, under_cost, puts_args, args_below, puts_arg, arg_below, put_arg, puts_head, head_below, put_head, put_constant, put_metavariable, put_local, put_greater, replaced_here, places_agree, replaced_lams, puts_nested, nested_cost, put_nested}
-use Rattle.lf_terms.specs.Extents.{IsWithin, InTerm}
+use Rattle.lf_terms.specs.Extents.{StaysWithin, InTerm}
 use Rattle.lf_terms.proofs.Extents.{term_unchanged, spine_unchanged}
 use Rattle.lf_terms.proofs.subst.+subst.Goals as goal
 
@@ -193,7 +193,7 @@ pub put_in-returns-then-is_within : goal.put_in-returns-then-is_within
 put_in-returns-then-is_within t c =
     let a = c.args in
     let images = a.images.now in
-    let inside : IsWithin (a.depth + 1) (InTerm c.in-Lam.body) = c.is_within.ensures c.if-is_within.true in
+    let inside : StaysWithin (a.depth + 1) (InTerm c.in-Lam.body) = c.is_within.ensures c.if-is_within.true in
     subst₂ (Substituted (putting (spine_of images.sub.now) images.by a.depth)) (sym (ap term_of c.in-Lam.is)) (ap lam (sym c.in_ok-copy-in-Lam.ensures))
     (put_under (spine_of images.sub.now) images.by a.depth _ _ (term_unchanged (spine_of images.sub.now) images.by (a.depth + 1) c.in-Lam.body inside))
 
