@@ -11,7 +11,7 @@ use Rattle.aesop_session.specs.Documents.{Verdict, proved, stuck, status_of, IsD
 use Rattle.aesop_session.specs.Refusals.{line_of}
 use Rattle.aesop_session.specs.Inputs.{TakesSmall, TakesRefused}
 use Rattle.basics.specs.Limits.{most_input}
-use Rattle.aesop_session.specs.Answers.{AnswersFile, RefusesFile, IsAnswer, TakesPrefix, Answered}
+use Rattle.aesop_session.specs.Answers.{AnswersFile, RefusesFile, IsWholeAnswer, TakesPrefix, Answered}
 
 two_statuses : (verdicts : List Verdict) → (status_of verdicts ≡ AllProved) ⊎ (status_of verdicts ≡ SomeStuck)
 two_statuses [] = inl refl
@@ -33,19 +33,19 @@ answer_of left later small status text takes d = record {
   document = subst (λ program. IsDocument program status text) takes.2 d;
 }
 
-is_answer : (left later : Option (List ℕ)) (small : SmallProgram) (status : Status) (text : List ℕ) → TakesSmall left later small → IsDocument small status text → IsAnswer prove_words left later status text
+is_answer : (left later : Option (List ℕ)) (small : SmallProgram) (status : Status) (text : List ℕ) → TakesSmall left later small → IsDocument small status text → IsWholeAnswer prove_words left later status text
 is_answer left later small status text takes d =
     elim (IsDocument-status small status text d) [
-      | inl all ↦ subst (λ s. IsAnswer prove_words left later s text) (sym all) (refl, answer_of left later small AllProved text takes (subst (λ s. IsDocument small s text) all d))
-      | inr some ↦ subst (λ s. IsAnswer prove_words left later s text) (sym some) (refl, answer_of left later small SomeStuck text takes (subst (λ s. IsDocument small s text) some d))
+      | inl all ↦ subst (λ s. IsWholeAnswer prove_words left later s text) (sym all) (refl, answer_of left later small AllProved text takes (subst (λ s. IsDocument small s text) all d))
+      | inr some ↦ subst (λ s. IsWholeAnswer prove_words left later s text) (sym some) (refl, answer_of left later small SomeStuck text takes (subst (λ s. IsDocument small s text) some d))
     ]
 
 -- a document that was written whole is the answer of its status
 pub Answered-document : (left later held after : Option (List ℕ)) (small : SmallProgram) (status : Status) → TakesSmall left later small → WritesDocument small held after status → Answered prove_words left later held after status
 Answered-document left later held after small status takes w =
     elim (IsDocument-status small status w.0 w.1) [
-      | inl all ↦ subst (Answered prove_words left later held after) (sym all) (w.0, subst (λ s. IsAnswer prove_words left later s w.0) all (is_answer left later small status w.0 takes w.1), w.2)
-      | inr some ↦ subst (Answered prove_words left later held after) (sym some) (w.0, subst (λ s. IsAnswer prove_words left later s w.0) some (is_answer left later small status w.0 takes w.1), w.2)
+      | inl all ↦ subst (Answered prove_words left later held after) (sym all) (w.0, subst (λ s. IsWholeAnswer prove_words left later s w.0) all (is_answer left later small status w.0 takes w.1), w.2)
+      | inr some ↦ subst (Answered prove_words left later held after) (sym some) (w.0, subst (λ s. IsWholeAnswer prove_words left later s w.0) some (is_answer left later small status w.0 takes w.1), w.2)
     ]
 
 -- a prefix of a document is a prefix of the answer of its status

@@ -35,24 +35,24 @@ RefusesFile left later text = (input : List ℕ) × TakesAll left later input ×
 
 -- The text is the whole answer of this status to the words, where the source had the one left before and has
 -- the other left after.
-abbrev pub IsAnswer : List (List ℕ) → Option (List ℕ) → Option (List ℕ) → Status → List ℕ → Type 0
-IsAnswer words left later AllProved text = IsProve words × AnswersFile left later AllProved text
-IsAnswer words left later SomeStuck text = IsProve words × AnswersFile left later SomeStuck text
-IsAnswer words left later FileRefused text = IsProve words × RefusesFile left later text
-IsAnswer words left later TooLong text = IsProve words × TakesMoreThan most_input left later × (text ≡ too_long_line)
-IsAnswer words left later Usage text = (IsProve words → ⊥) × Keeps left later × (text ≡ usage_line)
-IsAnswer words left later _ text = ⊥
+abbrev pub IsWholeAnswer : List (List ℕ) → Option (List ℕ) → Option (List ℕ) → Status → List ℕ → Type 0
+IsWholeAnswer words left later AllProved text = IsProve words × AnswersFile left later AllProved text
+IsWholeAnswer words left later SomeStuck text = IsProve words × AnswersFile left later SomeStuck text
+IsWholeAnswer words left later FileRefused text = IsProve words × RefusesFile left later text
+IsWholeAnswer words left later TooLong text = IsProve words × TakesMoreThan most_input left later × (text ≡ too_long_line)
+IsWholeAnswer words left later Usage text = (IsProve words → ⊥) × Keeps left later × (text ≡ usage_line)
+IsWholeAnswer words left later _ text = ⊥
 
 -- The sink took a prefix of the whole answer of some status.
 abbrev pub TakesPrefix : List (List ℕ) → (left later held after : Option (List ℕ)) → Type 0
-TakesPrefix words left later held after = (status : Status) × (text : List ℕ) × IsAnswer words left later status text × AppendsPrefix held after text
+TakesPrefix words left later held after = (status : Status) × (text : List ℕ) × IsWholeAnswer words left later status text × AppendsPrefix held after text
 
 -- What each status says of the source and the sink.
 abbrev pub Answered : List (List ℕ) → (left later held after : Option (List ℕ)) → Status → Type 0
 Answered words left later held after ReadFault = IsProve words × TakesAtMost most_input left later × Keeps held after
 Answered words left later held after WriteFault = TakesPrefix words left later held after
 Answered words left later held after NoMemory = (IsProve words × TakesAtMost most_input left later × Keeps held after) ⊎ TakesPrefix words left later held after
-Answered words left later held after status = (text : List ℕ) × IsAnswer words left later status text × Appends held after text
+Answered words left later held after status = (text : List ℕ) × IsWholeAnswer words left later status text × Appends held after text
 
 -- The file was answered, or memory ran out.
 abbrev pub Served : Status → Type 0

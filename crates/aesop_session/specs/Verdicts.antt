@@ -15,5 +15,5 @@ IsVerdictOf program family (Proved term numbers) = HasTerms program (family ∷ 
 IsVerdictOf program family Stuck = HasNoDerivation program family
 
 -- The verdict is right for the theorem of this number.
-abbrev pub IsVerdict : SmallProgram → (theorem : ℕ) → SmallVerdict → Type 0
-IsVerdict program theorem verdict = (declared : SmallTheorem) → slice_get program.theorems theorem ≡ Some declared → IsVerdictOf program declared.family verdict
+abbrev pub HasVerdict : SmallProgram → (theorem : ℕ) → SmallVerdict → Type 0
+HasVerdict program theorem verdict = (declared : SmallTheorem) → slice_get program.theorems theorem ≡ Some declared → IsVerdictOf program declared.family verdict

@@ -4,7 +4,7 @@ ghost use Rattle.std.specs.Prelude.{◌<◌, length, IfOk};
 ghost use Rattle.small_programs.specs.SmallPrograms.{IsNumbered};
 ghost use Rattle.small_search.specs.Closings.{IsClosedAt};
 ghost use Rattle.small_answers.specs.Lengths.{IsProofs};
-ghost use Rattle.aesop_session.specs.Verdicts.{IsVerdict, IsVerdictOf};
+ghost use Rattle.aesop_session.specs.Verdicts.{HasVerdict, IsVerdictOf};
 
 use basics::{Ids, NoMemory};
 use lf_terms::Term;
@@ -32,7 +32,7 @@ pub fn prove_small(
 ) -> Result<SmallVerdict, NoMemory>
     requires numbered { IsNumbered program.now }
     requires known { theorem < length program.now.theorems }
-    ensures { IfOk result (IsVerdict program.now theorem) }
+    ensures { IfOk result (HasVerdict program.now theorem) }
 {
     let proofs = Proofs::of_program(alloc, program)?;
     let family = program.theorems.as_slice()[theorem as usize].family;

@@ -29,7 +29,7 @@ use Rattle.file_trees.specs.Places.{tree_place}
 use Rattle.elab_terms.specs.Applied.{base_of, arguments_of}
 use Rattle.elab_terms.specs.Names.{Text, text_at, binder_name, Bound, variable_of, head_or}
 use Rattle.elab_terms.specs.Names as names
-use Rattle.elab_terms.specs.KnownTypes.{Founded, HaveTypes, typing_of, KnownAt, IsWanted, IsRefusal}
+use Rattle.elab_terms.specs.KnownTypes.{Founded, HaveTypes, known_typing, KnownAt, IsWanted, IsRefusal}
 use Rattle.typing_laws.specs.EtaLaws.{expanded}
 use Rattle.elab_terms.specs.Terms.{ReadsTerm, reads_abstraction, reads_application, ReadsArguments, reads_none, reads_argument, RefusesTerm, refuses_abstraction, refuses_body, refuses_redex, refuses_result, RefusesArguments, refuses_here, refuses_later}
 use Rattle.elab_terms.specs.declared.elab_fault.ElabFault.{ElabFault}
@@ -145,11 +145,11 @@ some_type (a ∷ types) (suc c) within = some_type types c (omega arith)
 abbrev HasType : Typing → LfHead → Type 0
 HasType Γ h = (a : LfType) × (Γ h ≡ Some a)
 
-pub head_typed : (sig : LfSignature) (scope : places.LocalContext) (binders : Bound) (name : List ℕ) (h : LfHead) → KnownAt sig (typing_of sig scope) binders → names.named_head sig binders name ≡ Some h → HasType (typing_of sig scope) h
+pub head_typed : (sig : LfSignature) (scope : places.LocalContext) (binders : Bound) (name : List ℕ) (h : LfHead) → KnownAt sig (known_typing sig scope) binders → names.named_head sig binders name ≡ Some h → HasType (known_typing sig scope) h
 head_typed sig scope binders name h known e = by_variable (variable_of binders name) refl
   where
     Γ : Typing
-    Γ = typing_of sig scope
+    Γ = known_typing sig scope
 
     others : Option LfHead
     others = option_map constant (place_of (constant_names sig) name)

@@ -23,8 +23,8 @@ abbrev pub HaveTypes : Bound → Typing → Type 0
 HaveTypes binders Γ = (n : ℕ) → n < length binders → (a : LfType) × (Γ (bound n) ≡ Some a)
 
 -- the types of heads, with no metavariables
-abbrev pub typing_of : LfSignature → LocalContext → Typing
-typing_of sig scope = typing_at sig [] scope
+abbrev pub known_typing : LfSignature → LocalContext → Typing
+known_typing sig scope = typing_at sig [] scope
 
 pub record KnownAt (sig : LfSignature) (Γ : Typing) (binders : Bound) : Type 0 where
   pub founded : Founded (kinds_in sig) Γ

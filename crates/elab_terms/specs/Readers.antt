@@ -3,12 +3,12 @@ use Rattle.lf_definitions.specs.Typing.{Typing}
 use Rattle.lf_kernel.specs.declared.local_context.LocalContext.{LocalContext}
 use Rattle.elab_terms.specs.Names.{Text}
 use Rattle.elab_terms.specs.FileTexts.{text_in}
-use Rattle.elab_terms.specs.KnownTypes.{typing_of}
+use Rattle.elab_terms.specs.KnownTypes.{known_typing}
 use Rattle.elab_terms.specs.declared.reader.Reader.{Reader}
 
-abbrev pub text_of : Reader → Text
-text_of reader = text_in reader.source.now
+abbrev pub whole_text : Reader → Text
+whole_text reader = text_in reader.source.now
 
 -- the types of heads at a place
 abbrev pub typing_by : Reader → LocalContext → Typing
-typing_by reader scope = typing_of reader.sig.now scope
+typing_by reader scope = known_typing reader.sig.now scope

@@ -8,7 +8,7 @@ ghost use Rattle.file_trees.specs.Trees.{Classifier, bind};
 ghost use Rattle.file_trees.specs.TypeViews.{bindings_of, last_of};
 ghost use Rattle.elab_terms.specs.ReadBinders.{OpensKind, ReadsKindAfter, RefusesKindAfter};
 ghost use Rattle.elab_terms.specs.KnownTypes.{KnownAt, IsRefusal};
-ghost use Rattle.elab_terms.specs.Readers.{text_of, typing_by};
+ghost use Rattle.elab_terms.specs.Readers.{whole_text, typing_by};
 ghost use Rattle.elab_terms.specs.Types.{ReadsKind, RefusesKind};
 
 use crate::binding::{bound_name, domain};
@@ -30,8 +30,8 @@ pub fn read_kind<'a>(
     requires cut { TokensOf reader.now.source.now.bytes.now reader.now.source.now.tokens.now }
     requires closed { reader.now.metas.now ≡ [] }
     requires known { KnownAt reader.now.sig.now (typing_by reader.now scope.now) names.old }
-    ensures read { IfOk result (λ kind. ReadsKind (text_of reader.now) reader.now.sig.now names.old (typing_by reader.now scope.now) tree.now kind.binders) }
-    ensures refused { IfErr result (IsRefusal (RefusesKind (text_of reader.now) reader.now.sig.now names.old (typing_by reader.now scope.now) tree.now)) }
+    ensures read { IfOk result (λ kind. ReadsKind (whole_text reader.now) reader.now.sig.now names.old (typing_by reader.now scope.now) tree.now kind.binders) }
+    ensures refused { IfErr result (IsRefusal (RefusesKind (whole_text reader.now) reader.now.sig.now names.old (typing_by reader.now scope.now) tree.now)) }
     ensures names { OnOk result (names.new ≡ names.old) }
 {
     let prefix = Vec::new(reader.alloc);
@@ -56,8 +56,8 @@ fn read_kind_rest<'a>(
     requires cut { TokensOf reader.now.source.now.bytes.now reader.now.source.now.tokens.now }
     requires closed { reader.now.metas.now ≡ [] }
     requires known { KnownAt reader.now.sig.now (with_context (types_of prefix.items) (typing_by reader.now scope.now)) names.old }
-    ensures read { IfOk result (λ kind. ReadsKindAfter (text_of reader.now) reader.now.sig.now names.old (typing_by reader.now scope.now) (types_of prefix.items) tree.now (types_of kind.items)) }
-    ensures refused { IfErr result (IsRefusal (RefusesKindAfter (text_of reader.now) reader.now.sig.now names.old (typing_by reader.now scope.now) (types_of prefix.items) tree.now)) }
+    ensures read { IfOk result (λ kind. ReadsKindAfter (whole_text reader.now) reader.now.sig.now names.old (typing_by reader.now scope.now) (types_of prefix.items) tree.now (types_of kind.items)) }
+    ensures refused { IfErr result (IsRefusal (RefusesKindAfter (whole_text reader.now) reader.now.sig.now names.old (typing_by reader.now scope.now) (types_of prefix.items) tree.now)) }
     ensures names { OnOk result (names.new ≡ names.old) }
 {
     let depth = names.len();
@@ -85,8 +85,8 @@ fn read_kind_binders<'a>(
     requires cut { TokensOf reader.now.source.now.bytes.now reader.now.source.now.tokens.now }
     requires closed { reader.now.metas.now ≡ [] }
     requires known { KnownAt reader.now.sig.now (with_context (types_of prefix.items) (typing_by reader.now scope.now)) names.old }
-    ensures read { IfOk result (λ types. OpensKind (text_of reader.now) reader.now.sig.now names.old names.new (typing_by reader.now scope.now) (types_of prefix.items) (types_of types.items) (bindings_of items.now) []) }
-    ensures refused { IfErr result (IsRefusal (λ fault. (last : Classifier) → RefusesKindAfter (text_of reader.now) reader.now.sig.now names.old (typing_by reader.now scope.now) (types_of prefix.items) (bind (bindings_of items.now) last) fault)) }
+    ensures read { IfOk result (λ types. OpensKind (whole_text reader.now) reader.now.sig.now names.old names.new (typing_by reader.now scope.now) (types_of prefix.items) (types_of types.items) (bindings_of items.now) []) }
+    ensures refused { IfErr result (IsRefusal (λ fault. (last : Classifier) → RefusesKindAfter (whole_text reader.now) reader.now.sig.now names.old (typing_by reader.now scope.now) (types_of prefix.items) (bind (bindings_of items.now) last) fault)) }
 {
     let mut types = prefix;
     for i in 0..items.len() {
@@ -118,8 +118,8 @@ fn read_kind_last<'a>(
     requires cut { TokensOf reader.now.source.now.bytes.now reader.now.source.now.tokens.now }
     requires closed { reader.now.metas.now ≡ [] }
     requires known { KnownAt reader.now.sig.now (with_context (types_of types.items) (typing_by reader.now scope.now)) names.old }
-    ensures read { IfOk result (λ kind. ReadsKindAfter (text_of reader.now) reader.now.sig.now names.old (typing_by reader.now scope.now) (types_of types.items) (last_of last.now) (types_of kind.items)) }
-    ensures refused { IfErr result (IsRefusal (RefusesKindAfter (text_of reader.now) reader.now.sig.now names.old (typing_by reader.now scope.now) (types_of types.items) (last_of last.now))) }
+    ensures read { IfOk result (λ kind. ReadsKindAfter (whole_text reader.now) reader.now.sig.now names.old (typing_by reader.now scope.now) (types_of types.items) (last_of last.now) (types_of kind.items)) }
+    ensures refused { IfErr result (IsRefusal (RefusesKindAfter (whole_text reader.now) reader.now.sig.now names.old (typing_by reader.now scope.now) (types_of types.items) (last_of last.now))) }
     ensures names { OnOk result (names.new ≡ names.old) }
 {
     match last {

@@ -8,7 +8,7 @@ ghost use Rattle.file_trees.specs.Trees.{Classifier, bind, family};
 ghost use Rattle.file_trees.specs.TypeViews.{bindings_of, last_of};
 ghost use Rattle.elab_terms.specs.ReadBinders.{Opens, ReadsAfter, RefusesAfter};
 ghost use Rattle.elab_terms.specs.KnownTypes.{KnownAt, IsRefusal};
-ghost use Rattle.elab_terms.specs.Readers.{text_of, typing_by};
+ghost use Rattle.elab_terms.specs.Readers.{whole_text, typing_by};
 ghost use Rattle.elab_terms.specs.Types.{ReadsType, RefusesType};
 
 use crate::binding::{binding_place, bound_name, domain};
@@ -32,8 +32,8 @@ pub fn read_type<'a>(
     requires cut { TokensOf reader.now.source.now.bytes.now reader.now.source.now.tokens.now }
     requires closed { reader.now.metas.now ≡ [] }
     requires known { KnownAt reader.now.sig.now (typing_by reader.now scope.now) names.old }
-    ensures read { IfOk result (λ ty. ReadsType (text_of reader.now) reader.now.sig.now names.old (typing_by reader.now scope.now) 0 tree.now (type_of ty)) }
-    ensures refused { IfErr result (IsRefusal (RefusesType (text_of reader.now) reader.now.sig.now names.old (typing_by reader.now scope.now) 0 tree.now)) }
+    ensures read { IfOk result (λ ty. ReadsType (whole_text reader.now) reader.now.sig.now names.old (typing_by reader.now scope.now) 0 tree.now (type_of ty)) }
+    ensures refused { IfErr result (IsRefusal (RefusesType (whole_text reader.now) reader.now.sig.now names.old (typing_by reader.now scope.now) 0 tree.now)) }
     ensures names { OnOk result (names.new ≡ names.old) }
 {
     let prefix = Vec::new(reader.alloc);
@@ -55,8 +55,8 @@ fn read_rest<'a>(
     requires cut { TokensOf reader.now.source.now.bytes.now reader.now.source.now.tokens.now }
     requires closed { reader.now.metas.now ≡ [] }
     requires known { KnownAt reader.now.sig.now (with_context (types_of prefix.items) (typing_by reader.now scope.now)) names.old }
-    ensures read { IfOk result (λ ty. ReadsAfter (text_of reader.now) reader.now.sig.now names.old (typing_by reader.now scope.now) (types_of prefix.items) tree.now (type_of ty)) }
-    ensures refused { IfErr result (IsRefusal (RefusesAfter (text_of reader.now) reader.now.sig.now names.old (typing_by reader.now scope.now) (types_of prefix.items) tree.now)) }
+    ensures read { IfOk result (λ ty. ReadsAfter (whole_text reader.now) reader.now.sig.now names.old (typing_by reader.now scope.now) (types_of prefix.items) tree.now (type_of ty)) }
+    ensures refused { IfErr result (IsRefusal (RefusesAfter (whole_text reader.now) reader.now.sig.now names.old (typing_by reader.now scope.now) (types_of prefix.items) tree.now)) }
     ensures names { OnOk result (names.new ≡ names.old) }
 {
     let depth = names.len();
@@ -85,8 +85,8 @@ fn read_binders<'a>(
     requires cut { TokensOf reader.now.source.now.bytes.now reader.now.source.now.tokens.now }
     requires closed { reader.now.metas.now ≡ [] }
     requires known { KnownAt reader.now.sig.now (with_context (types_of prefix.items) (typing_by reader.now scope.now)) names.old }
-    ensures read { IfOk result (λ types. Opens (text_of reader.now) reader.now.sig.now names.old names.new (typing_by reader.now scope.now) (types_of prefix.items) (types_of types.items) (bindings_of items.now) []) }
-    ensures refused { IfErr result (IsRefusal (λ fault. (last : Classifier) → RefusesAfter (text_of reader.now) reader.now.sig.now names.old (typing_by reader.now scope.now) (types_of prefix.items) (bind (bindings_of items.now) last) fault)) }
+    ensures read { IfOk result (λ types. Opens (whole_text reader.now) reader.now.sig.now names.old names.new (typing_by reader.now scope.now) (types_of prefix.items) (types_of types.items) (bindings_of items.now) []) }
+    ensures refused { IfErr result (IsRefusal (λ fault. (last : Classifier) → RefusesAfter (whole_text reader.now) reader.now.sig.now names.old (typing_by reader.now scope.now) (types_of prefix.items) (bind (bindings_of items.now) last) fault)) }
 {
     let mut types = prefix;
     for i in 0..items.len() {
@@ -121,8 +121,8 @@ fn read_last<'a>(
     requires cut { TokensOf reader.now.source.now.bytes.now reader.now.source.now.tokens.now }
     requires closed { reader.now.metas.now ≡ [] }
     requires known { KnownAt reader.now.sig.now (with_context (types_of types.items) (typing_by reader.now scope.now)) names.old }
-    ensures read { IfOk result (λ ty. ReadsAfter (text_of reader.now) reader.now.sig.now names.old (typing_by reader.now scope.now) (types_of types.items) (last_of last.now) (type_of ty)) }
-    ensures refused { IfErr result (IsRefusal (RefusesAfter (text_of reader.now) reader.now.sig.now names.old (typing_by reader.now scope.now) (types_of types.items) (last_of last.now))) }
+    ensures read { IfOk result (λ ty. ReadsAfter (whole_text reader.now) reader.now.sig.now names.old (typing_by reader.now scope.now) (types_of types.items) (last_of last.now) (type_of ty)) }
+    ensures refused { IfErr result (IsRefusal (RefusesAfter (whole_text reader.now) reader.now.sig.now names.old (typing_by reader.now scope.now) (types_of types.items) (last_of last.now))) }
     ensures names { OnOk result (names.new ≡ names.old) }
 {
     match last {
@@ -144,8 +144,8 @@ fn read_atom<'a>(
     requires cut { TokensOf reader.now.source.now.bytes.now reader.now.source.now.tokens.now }
     requires closed { reader.now.metas.now ≡ [] }
     requires known { KnownAt reader.now.sig.now (with_context (types_of types.items) (typing_by reader.now scope.now)) names.old }
-    ensures read { IfOk result (λ ty. ReadsAfter (text_of reader.now) reader.now.sig.now names.old (typing_by reader.now scope.now) (types_of types.items) (family span arguments.now) (type_of ty)) }
-    ensures refused { IfErr result (IsRefusal (RefusesAfter (text_of reader.now) reader.now.sig.now names.old (typing_by reader.now scope.now) (types_of types.items) (family span arguments.now))) }
+    ensures read { IfOk result (λ ty. ReadsAfter (whole_text reader.now) reader.now.sig.now names.old (typing_by reader.now scope.now) (types_of types.items) (family span arguments.now) (type_of ty)) }
+    ensures refused { IfErr result (IsRefusal (RefusesAfter (whole_text reader.now) reader.now.sig.now names.old (typing_by reader.now scope.now) (types_of types.items) (family span arguments.now))) }
     ensures names { OnOk result (names.new ≡ names.old) }
 {
     let inside = LocalContext::Under(types.as_slice(), &*scope);

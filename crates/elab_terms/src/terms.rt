@@ -13,7 +13,7 @@ ghost use Rattle.file_trees.specs.TermViews.{tree_of};
 ghost use Rattle.elab_terms.specs.Applied.{base_of, arguments_of};
 ghost use Rattle.elab_terms.specs.KnownTypes.{KnownAt, IsWanted, IsRefusal};
 ghost use Rattle.elab_terms.specs.Domains.{Domains};
-ghost use Rattle.elab_terms.specs.Readers.{text_of, typing_by};
+ghost use Rattle.elab_terms.specs.Readers.{whole_text, typing_by};
 ghost use Rattle.elab_terms.specs.Terms.{ReadsTerm, RefusesTerm, ReadsArguments, RefusesArguments};
 
 use crate::applied::{argument, base};
@@ -52,8 +52,8 @@ pub fn read_term<'a>(
     requires closed { reader.now.metas.now ≡ [] }
     requires known { KnownAt reader.now.sig.now (typing_by reader.now scope.now) names.old }
     requires wanted { IsWanted reader.now.sig.now (typing_by reader.now scope.now) (type_of wanted.now) }
-    ensures read { IfOk result (λ t. ReadsTerm (text_of reader.now) reader.now.sig.now names.old (typing_by reader.now scope.now) (tree_of tree.now) (type_of wanted.now) (term_of t)) }
-    ensures refused { IfErr result (IsRefusal (RefusesTerm (text_of reader.now) reader.now.sig.now names.old (typing_by reader.now scope.now) (tree_of tree.now) (type_of wanted.now))) }
+    ensures read { IfOk result (λ t. ReadsTerm (whole_text reader.now) reader.now.sig.now names.old (typing_by reader.now scope.now) (tree_of tree.now) (type_of wanted.now) (term_of t)) }
+    ensures refused { IfErr result (IsRefusal (RefusesTerm (whole_text reader.now) reader.now.sig.now names.old (typing_by reader.now scope.now) (tree_of tree.now) (type_of wanted.now))) }
     ensures names { OnOk result (names.new ≡ names.old) }
 {
     match base(tree) {
@@ -84,8 +84,8 @@ fn read_abstraction<'a>(
     requires known { KnownAt reader.now.sig.now (typing_by reader.now scope.now) names.old }
     requires wanted { IsWanted reader.now.sig.now (typing_by reader.now scope.now) (type_of wanted.now) }
     requires base { base_of (tree_of abstraction.now.tree.now) ≡ trees.abstraction abstraction.now.span (tree_of abstraction.now.body.now) }
-    ensures read { IfOk result (λ t. ReadsTerm (text_of reader.now) reader.now.sig.now names.old (typing_by reader.now scope.now) (tree_of abstraction.now.tree.now) (type_of wanted.now) (term_of t)) }
-    ensures refused { IfErr result (IsRefusal (RefusesTerm (text_of reader.now) reader.now.sig.now names.old (typing_by reader.now scope.now) (tree_of abstraction.now.tree.now) (type_of wanted.now))) }
+    ensures read { IfOk result (λ t. ReadsTerm (whole_text reader.now) reader.now.sig.now names.old (typing_by reader.now scope.now) (tree_of abstraction.now.tree.now) (type_of wanted.now) (term_of t)) }
+    ensures refused { IfErr result (IsRefusal (RefusesTerm (whole_text reader.now) reader.now.sig.now names.old (typing_by reader.now scope.now) (tree_of abstraction.now.tree.now) (type_of wanted.now))) }
     ensures names { OnOk result (names.new ≡ names.old) }
 {
     match argument(abstraction.tree, 0) {
@@ -129,8 +129,8 @@ fn read_application<'a>(
     requires closed { reader.now.metas.now ≡ [] }
     requires known { KnownAt reader.now.sig.now (typing_by reader.now scope.now) names.old }
     requires base { base_of (tree_of tree.now) ≡ leaf span }
-    ensures read { IfOk result (λ t. ReadsTerm (text_of reader.now) reader.now.sig.now names.old (typing_by reader.now scope.now) (tree_of tree.now) (type_of wanted.now) (term_of t)) }
-    ensures refused { IfErr result (IsRefusal (RefusesTerm (text_of reader.now) reader.now.sig.now names.old (typing_by reader.now scope.now) (tree_of tree.now) (type_of wanted.now))) }
+    ensures read { IfOk result (λ t. ReadsTerm (whole_text reader.now) reader.now.sig.now names.old (typing_by reader.now scope.now) (tree_of tree.now) (type_of wanted.now) (term_of t)) }
+    ensures refused { IfErr result (IsRefusal (RefusesTerm (whole_text reader.now) reader.now.sig.now names.old (typing_by reader.now scope.now) (tree_of tree.now) (type_of wanted.now))) }
     ensures names { OnOk result (names.new ≡ names.old) }
 {
     let Some(head) = head_named(reader.sig, names, text(reader.source, span)) else {
@@ -178,9 +178,9 @@ pub fn read_arguments<'a>(
     requires domains { Domains reader.now.sig.now (typing_by reader.now scope.now) head_type.now.raise head_type.now.binders.now }
     requires shapes { shapes.now ≡ shapes_of_types head_type.now.binders.now }
     requires few { length (arguments_of (tree_of tree.now) []) ≤ length head_type.now.binders.now }
-    ensures read { IfOk result (λ terms. ReadsArguments (text_of reader.now) reader.now.sig.now names.old (typing_by reader.now scope.now) stays (arguments_of (tree_of tree.now) []) (take (length (arguments_of (tree_of tree.now) [])) (rename_context (next_by head_type.now.raise) head_type.now.binders.now)) (spine_of terms.items)) }
+    ensures read { IfOk result (λ terms. ReadsArguments (whole_text reader.now) reader.now.sig.now names.old (typing_by reader.now scope.now) stays (arguments_of (tree_of tree.now) []) (take (length (arguments_of (tree_of tree.now) [])) (rename_context (next_by head_type.now.raise) head_type.now.binders.now)) (spine_of terms.items)) }
     ensures count { IfOk result (λ terms. length terms.items ≡ length (arguments_of (tree_of tree.now) [])) }
-    ensures refused { IfErr result (IsRefusal (RefusesArguments (text_of reader.now) reader.now.sig.now names.old (typing_by reader.now scope.now) stays (arguments_of (tree_of tree.now) []) (rename_context (next_by head_type.now.raise) head_type.now.binders.now))) }
+    ensures refused { IfErr result (IsRefusal (RefusesArguments (whole_text reader.now) reader.now.sig.now names.old (typing_by reader.now scope.now) stays (arguments_of (tree_of tree.now) []) (rename_context (next_by head_type.now.raise) head_type.now.binders.now))) }
     ensures names { OnOk result (names.new ≡ names.old) }
 {
     let types = head_type.binders.as_slice();

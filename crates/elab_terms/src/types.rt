@@ -10,7 +10,7 @@ ghost use Rattle.file_trees.specs.Trees.{family};
 ghost use Rattle.file_trees.specs.TermViews.{trees_of};
 ghost use Rattle.elab_terms.specs.KnownTypes.{KnownAt, IsRefusal};
 ghost use Rattle.elab_terms.specs.Domains.{Domains};
-ghost use Rattle.elab_terms.specs.Readers.{text_of, typing_by};
+ghost use Rattle.elab_terms.specs.Readers.{whole_text, typing_by};
 ghost use Rattle.elab_terms.specs.Terms.{ReadsArguments, RefusesArguments};
 ghost use Rattle.elab_terms.specs.Types.{ReadsType, RefusesType};
 
@@ -41,8 +41,8 @@ pub fn read_terms<'a>(
     requires domains { Domains reader.now.sig.now (typing_by reader.now scope.now) 0 binders.now }
     requires shapes { shapes.now ≡ shapes_of_types binders.now }
     requires count { length items.now ≡ length binders.now }
-    ensures read { IfOk result (λ terms. ReadsArguments (text_of reader.now) reader.now.sig.now names.old (typing_by reader.now scope.now) stays (trees_of items.now) binders.now (spine_of terms.items)) }
-    ensures refused { IfErr result (IsRefusal (RefusesArguments (text_of reader.now) reader.now.sig.now names.old (typing_by reader.now scope.now) stays (trees_of items.now) binders.now)) }
+    ensures read { IfOk result (λ terms. ReadsArguments (whole_text reader.now) reader.now.sig.now names.old (typing_by reader.now scope.now) stays (trees_of items.now) binders.now (spine_of terms.items)) }
+    ensures refused { IfErr result (IsRefusal (RefusesArguments (whole_text reader.now) reader.now.sig.now names.old (typing_by reader.now scope.now) stays (trees_of items.now) binders.now)) }
     ensures names { OnOk result (names.new ≡ names.old) }
 {
     let types = binders.as_slice();
@@ -69,8 +69,8 @@ pub fn read_family<'a>(
     requires cut { TokensOf reader.now.source.now.bytes.now reader.now.source.now.tokens.now }
     requires closed { reader.now.metas.now ≡ [] }
     requires known { KnownAt reader.now.sig.now (typing_by reader.now scope.now) names.old }
-    ensures read { IfOk result (λ atom. (count : ℕ) → ReadsType (text_of reader.now) reader.now.sig.now names.old (typing_by reader.now scope.now) count (family span arguments.now) (atom_of atom)) }
-    ensures refused { IfErr result (IsRefusal (λ fault. (count : ℕ) → RefusesType (text_of reader.now) reader.now.sig.now names.old (typing_by reader.now scope.now) count (family span arguments.now) fault)) }
+    ensures read { IfOk result (λ atom. (count : ℕ) → ReadsType (whole_text reader.now) reader.now.sig.now names.old (typing_by reader.now scope.now) count (family span arguments.now) (atom_of atom)) }
+    ensures refused { IfErr result (IsRefusal (λ fault. (count : ℕ) → RefusesType (whole_text reader.now) reader.now.sig.now names.old (typing_by reader.now scope.now) count (family span arguments.now) fault)) }
     ensures names { OnOk result (names.new ≡ names.old) }
 {
     let sig = reader.sig;

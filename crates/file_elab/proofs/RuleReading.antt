@@ -30,7 +30,7 @@ use Rattle.file_elab.specs.declared.rule_parts.RuleParts.{RuleParts}
 use Rattle.file_elab.specs.Programs.{MayBeNamed, Declares, declares_rule, refuses_taken, refuses_many, refuses_rule_name, refuses_rule_part}
 use Rattle.file_elab.specs.ProgramParts.{program_with, DeclaresInBook, RefusesInBook}
 use Rattle.file_elab.specs.Rules.{number_value, ReadsPhase, reads_norm, reads_safe, reads_unsafe, HasPhase, builder_of, family_if, listed_family, subject_of, major_value, IsMajorNumber, HasMajorPlace, ReadsRule, refuses_number, refuses_subject, refuses_major, refuses_premises}
-use Rattle.file_elab.specs.ReadRules.{names_in, tree_of, IsPhaseFor, IsSubjectFor, IsMajorFor, IsReadRule, refused_as}
+use Rattle.file_elab.specs.ReadRules.{names_in, declaration_of, IsPhaseFor, IsSubjectFor, IsMajorFor, IsReadRule, refused_as}
 use Rattle.file_elab.proofs.MajorArguments.{major_number, no_major_number}
 
 -- A number that is no penalty, and one that is no percentage.
@@ -188,7 +188,7 @@ module _ (text : Text) (sig : LfSignature) (old : Book) (parts : RuleParts) (rul
       ]
 
   abbrev Refused : RuleFault → Type 0
-  Refused fault = IsRefusal (RefusesInBook text sig old (tree_of parts)) (refused_as parts fault)
+  Refused fault = IsRefusal (RefusesInBook text sig old (declaration_of parts)) (refused_as parts fault)
 
   pub rule_refused : (new_book : Book) (fault : RuleFault) → AddsRule sig old rule (Err fault) new_book → Refused fault
   rule_refused new_book (NoMemory kept) adds = tt
@@ -243,7 +243,7 @@ module _ (text : Text) (sig : LfSignature) (old : Book) (parts : RuleParts) (rul
       }
 
   pub rule_declared : (new_book : Book) → (IsTaken old rule → ⊥) → (IsFull old → ⊥) → IsRuleOver sig old rule → new_book ≡ record { rules = old.rules ++ rule ∷ []; lists = old.lists } →
-      DeclaresInBook text sig old (tree_of parts) new_book
+      DeclaresInBook text sig old (declaration_of parts) new_book
   rule_declared new_book free room fits is theorems =
-      let P : Book → Type 0 = λ book. Declares text (program_with sig old theorems) (tree_of parts) (program_with sig book theorems) in
+      let P : Book → Type 0 = λ book. Declares text (program_with sig old theorems) (declaration_of parts) (program_with sig book theorems) in
       subst P (sym is) (declares_rule parts.name parts.number parts.subject parts.phase parts.builder parts.major parts.set rule (may_be_named free room) (reads_rule fits))

@@ -21,8 +21,8 @@ use Rattle.file_elab.specs.Rules.{number_value, ReadsPhase, builder_of, subject_
 abbrev pub names_in : Book → List (List ℕ)
 names_in book = map (λ rule. rule.name) book.rules
 
-abbrev pub tree_of : RuleParts → DeclTree
-tree_of parts = rule_tree parts.name parts.phase parts.number parts.builder parts.subject parts.major parts.set
+abbrev pub declaration_of : RuleParts → DeclTree
+declaration_of parts = rule_tree parts.name parts.phase parts.number parts.builder parts.subject parts.major parts.set
 
 -- A number that may not stand there is read as a percentage that no rule has,
 abbrev pub IsPhaseFor : PhaseWord → ℤ → Phase → Type 0

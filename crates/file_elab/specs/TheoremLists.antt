@@ -4,6 +4,6 @@ use Rattle.basics.specs.Limits.{most_theorems}
 use Rattle.file_elab.specs.Theorems.{LfTheorem}
 
 -- The names stand in the order of the theorems, of which there are no more than may be.
-pub record IsListed (theorems : List LfTheorem) (names : List (List ℕ)) : Type 0 where
+pub record KeepsNames (theorems : List LfTheorem) (names : List (List ℕ)) : Type 0 where
   pub few : length theorems ≤ most_theorems
   pub names_are : names ≡ map (λ theorem. theorem.name) theorems

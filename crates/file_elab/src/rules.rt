@@ -6,7 +6,7 @@ ghost use Rattle.rule_sets.specs.Refusals.{IsOver};
 ghost use Rattle.elab_terms.specs.KnownTypes.{IsRefusal};
 ghost use Rattle.elab_terms.specs.FileTexts.{text_in};
 ghost use Rattle.file_elab.specs.ProgramParts.{DeclaresInBook, RefusesInBook};
-ghost use Rattle.file_elab.specs.ReadRules.{tree_of, IsReadRule, refused_as};
+ghost use Rattle.file_elab.specs.ReadRules.{declaration_of, IsReadRule, refused_as};
 ghost use Rattle.file_elab.specs.Rules.{major_place};
 
 use crate::rule_parts::{RuleParts, read_builder, read_major, read_phase, read_set, read_subject};
@@ -29,8 +29,8 @@ pub fn declare_rule(
     parts: RuleParts,
 ) -> Result<(), ElabFault>
     requires { IsOver sig.now book.old }
-    ensures declared { IfOk result (λ _. DeclaresInBook (text_in source.now) sig.now book.old (tree_of parts) book.new) }
-    ensures refused { IfErr result (IsRefusal (RefusesInBook (text_in source.now) sig.now book.old (tree_of parts))) }
+    ensures declared { IfOk result (λ _. DeclaresInBook (text_in source.now) sig.now book.old (declaration_of parts) book.new) }
+    ensures refused { IfErr result (IsRefusal (RefusesInBook (text_in source.now) sig.now book.old (declaration_of parts))) }
     ensures over { OnOk result (IsOver sig.now book.new) }
 {
     let rule = read_rule(alloc, source, sig, &*book, parts)?;

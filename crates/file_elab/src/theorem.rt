@@ -29,7 +29,7 @@ pub struct TheoremList {
 impl Model for TheoremList {
     ghost use Rattle.std.specs.Prelude.{List, map};
     ghost use Rattle.file_elab.specs.Theorems.{LfTheorem, theorems_code};
-    ghost use Rattle.file_elab.specs.TheoremLists.{IsListed};
+    ghost use Rattle.file_elab.specs.TheoremLists.{KeepsNames};
 
     ghost Value = { List LfTheorem };
 
@@ -39,7 +39,7 @@ impl Model for TheoremList {
 
     ghost view = { λ a. map theorem_of a.items.items };
 
-    ghost invariant = { λ a. IsListed (map theorem_of a.items.items) a.names };
+    ghost invariant = { λ a. KeepsNames (map theorem_of a.items.items) a.names };
 }
 
 impl TheoremList {

@@ -5,12 +5,12 @@ use Rattle.std.proofs.Math.Seq.{drop-cons}
 use Rattle.std.proofs.lemmas.Bool.{and_parts, false_from_ne_true, cases_lt}
 use Rattle.std.proofs.lemmas.List.{get_or-set_same, get_or-set_other, get_or-replicate, get_or_past, drop_all, length-set, length-drop, length-replicate}
 use Rattle.unification.specs.Patterns.{has_number, are_different, where_different}
-use Rattle.meta_patterns.specs.Variables.{placed_number, IsTable}
+use Rattle.meta_patterns.specs.Variables.{placed_number, IsPlaceTable}
 use Rattle.meta_patterns.proofs.OwnVariables.{equal_or_not, placed_number-here, placed_number-later, is_some-placed_number}
 
 -- what the table has after so many of the last variables
 pub record TableSoFar (ns : List ℕ) (i : ℕ) (table : List (Option ℕ)) : Type 0 where
-  pub is_table : IsTable table (drop (length ns - i) ns)
+  pub is_table : IsPlaceTable table (drop (length ns - i) ns)
   pub differ : are_different (drop (length ns - i) ns) ≡ true
   pub has_room : All (λ n. n < length table) ns
 
@@ -29,7 +29,7 @@ empty_table ns size table is room =
     let none : drop (length ns - 0) ns ≡ [] = drop_all (length ns - 0) ns (omega arith) in
     let long : size ≡ length table = sym (ap length is ∙ length-replicate size None) in
     record {
-      is_table = subst (IsTable table) (sym none) (λ n. let same : table ≡ replicate size nothing = is in ap (λ l. get_or l n None) same ∙ empty_entry size n);
+      is_table = subst (IsPlaceTable table) (sym none) (λ n. let same : table ≡ replicate size nothing = is in ap (λ l. get_or l n None) same ∙ empty_entry size n);
       differ = ap are_different none;
       has_room = subst (λ k. All (λ n. n < k) ns) long room;
     }
@@ -60,7 +60,7 @@ table_stops ns i x table so_far inside is there =
     differ e = cc
 
 -- one more
-table_step : (rest : List ℕ) (x i : ℕ) (table : List (Option ℕ)) → x < length table → i ≡ length rest → IsTable table rest → IsTable (set table x (Some i)) (x ∷ rest)
+table_step : (rest : List ℕ) (x i : ℕ) (table : List (Option ℕ)) → x < length table → i ≡ length rest → IsPlaceTable table rest → IsPlaceTable (set table x (Some i)) (x ∷ rest)
 table_step rest x i table room place is_table n = either (equal_or_not x n)
   where
     either : (x ≡ n) ⊎ (x ≢ n) → get_or (set table x (Some i)) n None ≡ placed_number (x ∷ rest) n
@@ -75,15 +75,15 @@ table_goes_on ns i x table so_far inside is room none =
     let new : has_number rest x ≡ false = sym (is_some-placed_number rest x) ∙ ap is_some (sym (so_far.is_table x)) ∙ none in
     let place : i ≡ length rest = omega (arith, inside, length-drop (length ns - i) ns) in
     record {
-      is_table = subst (IsTable (set table x (Some i))) (sym next) (table_step rest x i table room place so_far.is_table);
+      is_table = subst (IsPlaceTable (set table x (Some i))) (sym next) (table_step rest x i table room place so_far.is_table);
       differ = ap are_different next ∙ ap₂ (λ b c. not b && c) new so_far.differ;
       has_room = subst (λ k. All (λ n. n < k) ns) (sym (length-set table x (Some i))) so_far.has_room;
     }
 
-pub table_ends : (ns : List ℕ) (i : ℕ) (table : List (Option ℕ)) → TableSoFar ns i table → length ns ≤ i → (are_different ns ≡ true) × IsTable table ns
+pub table_ends : (ns : List ℕ) (i : ℕ) (table : List (Option ℕ)) → TableSoFar ns i table → length ns ≤ i → (are_different ns ≡ true) × IsPlaceTable table ns
 table_ends ns i table so_far past =
     let all : drop (length ns - i) ns ≡ ns = let none : length ns - i ≡ zero = omega (arith, past) in ap (λ k. drop k ns) none in
-    (ap are_different (sym all) ∙ so_far.differ, subst (IsTable table) all so_far.is_table)
+    (ap are_different (sym all) ∙ so_far.differ, subst (IsPlaceTable table) all so_far.is_table)
 
 pub different_pattern : (ns : List ℕ) → are_different ns ≡ true → Some ns ≡ where_different (Some ns)
 different_pattern ns e = sym (ap (λ b. if b then Some ns else None) e)

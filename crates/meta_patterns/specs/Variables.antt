@@ -19,17 +19,17 @@ abbrev pub placed_number : List ℕ → ℕ → Option ℕ
 placed_number ns n = if has_number ns n then Some (length ns - suc (place_of_number ns n)) else None
 
 -- A table has this number of each variable.
-abbrev pub IsTable : List (Option ℕ) → List ℕ → Type 0
-IsTable table ns = (n : ℕ) → slice_index_or table n None ≡ placed_number ns n
+abbrev pub IsPlaceTable : List (Option ℕ) → List ℕ → Type 0
+IsPlaceTable table ns = (n : ℕ) → slice_index_or table n None ≡ placed_number ns n
 
 abbrev pub IsTabled : Variables → Type 0
 IsTabled (Own count) = ⊤
-IsTabled (Chosen numbers table) = IsTable table.items numbers
+IsTabled (Chosen numbers table) = IsPlaceTable table.items numbers
 
 -- There is a table of these variables where they differ.
 abbrev pub TabledIfDifferent : List ℕ → Option (List (Option ℕ)) → Type 0
 TabledIfDifferent ns None = are_different ns ≡ false
-TabledIfDifferent ns (Some table) = (are_different ns ≡ true) × IsTable table ns
+TabledIfDifferent ns (Some table) = (are_different ns ≡ true) × IsPlaceTable table ns
 
 -- Each variable below this number is one of these.
 abbrev pub HasBelow : List ℕ → ℕ → Type 0

@@ -5,7 +5,7 @@ use Rattle.lf_terms.specs.Types.{types_of}
 use Rattle.file_trees.specs.Trees.{bind}
 use Rattle.file_trees.specs.TypeViews.{last_of}
 use Rattle.elab_terms.specs.ReadBinders.{RefusesKindAfter}
-use Rattle.elab_terms.specs.Readers.{text_of, typing_by}
+use Rattle.elab_terms.specs.Readers.{whole_text, typing_by}
 use Rattle.elab_terms.specs.Types.{ReadsKind, reads_type_word, refuses_kind_family}
 use Rattle.elab_terms.specs.declared.elab_fault.ElabFault.TheVariants.{Unknown}
 use Rattle.elab_terms.proofs.Lasts.{last_falls}
@@ -20,7 +20,7 @@ read_kind_last-returns-in-Fam-clause-refused t c =
     let a = c.args in
     let Γ = typing_by a.reader.now a.scope.now in
     let prefix = types_of a.types.items in
-    subst (λ l. RefusesKindAfter (text_of a.reader.now) a.reader.now.sig.now a.names.now Γ prefix (last_of l) (Unknown c.in-Fam.span.start)) (sym c.in-Fam.is)
+    subst (λ l. RefusesKindAfter (whole_text a.reader.now) a.reader.now.sig.now a.names.now Γ prefix (last_of l) (Unknown c.in-Fam.span.start)) (sym c.in-Fam.is)
     (refuses_kind_family a.names.now (with_context prefix Γ) c.in-Fam.span c.in-Fam.field-1)
 
 pub read_kind_last-returns-in-Star-clause-read : goal.read_kind_last-returns-in-Star-clause-read
@@ -30,7 +30,7 @@ read_kind_last-returns-in-Star-clause-read t c =
     let prefix = types_of a.types.items in record {
       rest = [];
       whole = sym (append_nil prefix);
-      read = subst (λ l. ReadsKind (text_of a.reader.now) a.reader.now.sig.now a.names.now (with_context prefix Γ) (last_of l) []) (sym c.in-Star.is) (reads_type_word a.names.now (with_context prefix Γ) c.in-Star.field-0);
+      read = subst (λ l. ReadsKind (whole_text a.reader.now) a.reader.now.sig.now a.names.now (with_context prefix Γ) (last_of l) []) (sym c.in-Star.is) (reads_type_word a.names.now (with_context prefix Γ) c.in-Star.field-0);
     }
 
 pub read_kind_rest-read_kind_last-requires : goal.read_kind_rest-read_kind_last-requires
@@ -43,7 +43,7 @@ read_kind_rest-read_kind_last-requires t c =
 pub read_kind_rest-returns-in-Ok-read_kind_last-clause-read : goal.read_kind_rest-returns-in-Ok-read_kind_last-clause-read
 read_kind_rest-returns-in-Ok-read_kind_last-clause-read t c =
     let a = c.args in
-    let text = text_of a.reader.now in
+    let text = whole_text a.reader.now in
     let Γ = typing_by a.reader.now a.scope.now in
     let before = types_of a.prefix.items in
     let last = last_of c.parts.result.1.now in

@@ -6,7 +6,7 @@ use Rattle.file_trees.specs.Trees.{Classifier, bind}
 use Rattle.file_trees.specs.TypeViews.{binding_of, bindings_of}
 use Rattle.elab_terms.specs.ReadBinders.{binding_name, OpensKind, RefusesKindAfter}
 use Rattle.elab_terms.specs.KnownTypes.{KnownAt}
-use Rattle.elab_terms.specs.Readers.{text_of, typing_by}
+use Rattle.elab_terms.specs.Readers.{whole_text, typing_by}
 use Rattle.elab_terms.specs.Types.{ReadsType, RefusesType}
 use Rattle.elab_terms.proofs.Lasts.{bindings_of-drop, length-bindings_of, same_binding}
 use Rattle.elab_terms.proofs.KindOpenings.{opens_no_kind, kind_domain_refused, opens_more_kind}
@@ -17,7 +17,7 @@ use Rattle.elab_terms.proofs.read_kind.read_kind_binders.Goals as goal
 pub loop-i-init : goal.loop-i-init
 loop-i-init c =
     let a = c.args in
-    opens_no_kind (text_of a.reader.now) a.reader.now.sig.now a.names.now (typing_by a.reader.now a.scope.now) (types_of a.prefix.items) (bindings_of a.items.now) c.requires.known
+    opens_no_kind (whole_text a.reader.now) a.reader.now.sig.now a.names.now (typing_by a.reader.now a.scope.now) (types_of a.prefix.items) (bindings_of a.items.now) c.requires.known
 
 pub read_type-requires-clause-known : goal.read_type-requires-clause-known
 read_type-requires-clause-known c =
@@ -28,7 +28,7 @@ read_type-requires-clause-known c =
 pub returns-in-Err-clause-refused : goal.returns-in-Err-clause-refused
 returns-in-Err-clause-refused c =
     let a = c.args in
-    let text = text_of a.reader.now in
+    let text = whole_text a.reader.now in
     let Γ = typing_by a.reader.now a.scope.now in
     let before = types_of a.prefix.items in
     let after = types_of c.loop-i.types.items in
@@ -45,7 +45,7 @@ returns-in-Err-clause-refused c =
 pub loop-i-preserved : goal.loop-i-preserved
 loop-i-preserved c =
     let a = c.args in
-    let text = text_of a.reader.now in
+    let text = whole_text a.reader.now in
     let Γ = typing_by a.reader.now a.scope.now in
     let before = types_of a.prefix.items in
     let after = types_of c.loop-i.types.items in
@@ -68,5 +68,5 @@ loop-i-preserved c =
 pub returns-clause-read : goal.returns-clause-read
 returns-clause-read c =
     let a = c.args in
-    subst (OpensKind (text_of a.reader.now) a.reader.now.sig.now a.names.now c.loop-i.names (typing_by a.reader.now a.scope.now) (types_of a.prefix.items) (types_of c.loop-i.types.items) (bindings_of a.items.now))
+    subst (OpensKind (whole_text a.reader.now) a.reader.now.sig.now a.names.now c.loop-i.names (typing_by a.reader.now a.scope.now) (types_of a.prefix.items) (types_of c.loop-i.types.items) (bindings_of a.items.now))
     (past_all (bindings_of a.items.now) c.loop-i.i (omega (arith, c.loop-i-test.false, length-bindings_of a.items.now))) c.loop-i.invariant

@@ -7,7 +7,7 @@ use Rattle.file_trees.specs.Trees.{Classifier, bind, classifier_size}
 use Rattle.file_trees.specs.TypeViews.{binding_of, bindings_of, last_of}
 use Rattle.elab_terms.specs.ReadBinders.{binding_name, Opens, RefusesAfter}
 use Rattle.elab_terms.specs.KnownTypes.{KnownAt}
-use Rattle.elab_terms.specs.Readers.{text_of, typing_by}
+use Rattle.elab_terms.specs.Readers.{whole_text, typing_by}
 use Rattle.elab_terms.specs.Types.{ReadsType, RefusesType, refuses_word}
 use Rattle.elab_terms.specs.declared.elab_fault.ElabFault.TheVariants.{TooMany, Unknown}
 use Rattle.typing_laws.proofs.Binders.{pis-append}
@@ -19,12 +19,12 @@ use Rattle.elab_terms.proofs.read_type.+read_type.Goals as goal
 pub read_binders-loop-i-init : goal.read_binders-loop-i-init
 read_binders-loop-i-init t c =
     let a = c.args in
-    opens_none (text_of a.reader.now) a.reader.now.sig.now a.names.now (typing_by a.reader.now a.scope.now) (types_of a.prefix.items) (bindings_of a.items.now) c.requires.known
+    opens_none (whole_text a.reader.now) a.reader.now.sig.now a.names.now (typing_by a.reader.now a.scope.now) (types_of a.prefix.items) (bindings_of a.items.now) c.requires.known
 
 pub read_binders-returns-then-len-ge-MOST_BINDERS-clause-refused : goal.read_binders-returns-then-len-ge-MOST_BINDERS-clause-refused
 read_binders-returns-then-len-ge-MOST_BINDERS-clause-refused t c = λ last.
     let a = c.args in
-    let text = text_of a.reader.now in
+    let text = whole_text a.reader.now in
     let Γ = typing_by a.reader.now a.scope.now in
     let before = types_of a.prefix.items in
     let after = types_of c.loop-i.types.items in
@@ -53,7 +53,7 @@ read_binders-read_type-requires t c =
 pub read_binders-returns-in-Err-clause-refused : goal.read_binders-returns-in-Err-clause-refused
 read_binders-returns-in-Err-clause-refused t c =
     let a = c.args in
-    let text = text_of a.reader.now in
+    let text = whole_text a.reader.now in
     let Γ = typing_by a.reader.now a.scope.now in
     let before = types_of a.prefix.items in
     let after = types_of c.loop-i.types.items in
@@ -71,7 +71,7 @@ read_binders-returns-in-Err-clause-refused t c =
 pub read_binders-loop-i-preserved : goal.read_binders-loop-i-preserved
 read_binders-loop-i-preserved t c =
     let a = c.args in
-    let text = text_of a.reader.now in
+    let text = whole_text a.reader.now in
     let Γ = typing_by a.reader.now a.scope.now in
     let before = types_of a.prefix.items in
     let after = types_of c.loop-i.types.items in
@@ -95,7 +95,7 @@ read_binders-loop-i-preserved t c =
 pub read_binders-returns-clause-read : goal.read_binders-returns-clause-read
 read_binders-returns-clause-read t c =
     let a = c.args in
-    subst (Opens (text_of a.reader.now) a.reader.now.sig.now a.names.now c.loop-i.names (typing_by a.reader.now a.scope.now) (types_of a.prefix.items) (types_of c.loop-i.types.items) (bindings_of a.items.now))
+    subst (Opens (whole_text a.reader.now) a.reader.now.sig.now a.names.now c.loop-i.names (typing_by a.reader.now a.scope.now) (types_of a.prefix.items) (types_of c.loop-i.types.items) (bindings_of a.items.now))
     (past_all (bindings_of a.items.now) c.loop-i.i (omega (arith, c.loop-i-test.false, length-bindings_of a.items.now))) c.loop-i.invariant
 
 pub read_last-returns-in-Star-clause-refused : goal.read_last-returns-in-Star-clause-refused
@@ -103,7 +103,7 @@ read_last-returns-in-Star-clause-refused t c =
     let a = c.args in
     let Γ = typing_by a.reader.now a.scope.now in
     let prefix = types_of a.types.items in
-    subst (λ l. RefusesAfter (text_of a.reader.now) a.reader.now.sig.now a.names.now Γ prefix (last_of l) (Unknown c.in-Star.span.start)) (sym c.in-Star.is)
+    subst (λ l. RefusesAfter (whole_text a.reader.now) a.reader.now.sig.now a.names.now Γ prefix (last_of l) (Unknown c.in-Star.span.start)) (sym c.in-Star.is)
     (refuses_word a.names.now (with_context prefix Γ) (length prefix) c.in-Star.span)
 
 pub read_rest-read_binders-requires : goal.read_rest-read_binders-requires
@@ -124,7 +124,7 @@ read_rest-read_last-requires t c =
 pub read_rest-returns-in-Ok-read_last-clause-read : goal.read_rest-returns-in-Ok-read_last-clause-read
 read_rest-returns-in-Ok-read_last-clause-read t c =
     let a = c.args in
-    let text = text_of a.reader.now in
+    let text = whole_text a.reader.now in
     let Γ = typing_by a.reader.now a.scope.now in
     let before = types_of a.prefix.items in
     let last = last_of c.parts.result.1.now in

@@ -3,7 +3,7 @@ use Rattle.file_trees.specs.Trees.{classifier_size, bindings_size}
 use Rattle.file_trees.specs.TypeViews.{bindings_of}
 use Rattle.lf_terms.specs.Types.{types_of}
 use Rattle.elab_terms.specs.ReadBinders.{Opens}
-use Rattle.elab_terms.specs.Readers.{text_of, typing_by}
+use Rattle.elab_terms.specs.Readers.{whole_text, typing_by}
 use Rattle.elab_terms.proofs.Lasts.{last_measure}
 use Rattle.elab_terms.proofs.read_type.+read_type.Given as goal
 
@@ -21,4 +21,4 @@ decreases-read_last l = last_measure l.last.now
 
 abbrev pub invariant-read_binders-loop-i : goal.invariant-read_binders-loop-i
 invariant-read_binders-loop-i l =
-    Opens (text_of l.reader) l.reader.sig.now l.fn.names l.names (typing_by l.reader l.scope) (types_of l.fn.prefix.items) (types_of l.types.items) (bindings_of l.items) (drop l.i (bindings_of l.items))
+    Opens (whole_text l.reader) l.reader.sig.now l.fn.names l.names (typing_by l.reader l.scope) (types_of l.fn.prefix.items) (types_of l.types.items) (bindings_of l.items) (drop l.i (bindings_of l.items))

@@ -30,7 +30,7 @@ use Rattle.elab_terms.specs.KnownTypes.{KnownAt}
 use Rattle.elab_terms.specs.Names.{binder_name}
 use Rattle.elab_terms.specs.Names as names
 use Rattle.elab_terms.specs.Domains.{left_of}
-use Rattle.elab_terms.specs.Readers.{text_of, typing_by}
+use Rattle.elab_terms.specs.Readers.{whole_text, typing_by}
 use Rattle.elab_terms.specs.Terms.{ReadsTerm, ReadsArguments, reads_none, RefusesTerm, refuses_name, refuses_extra, refuses_in_argument, RefusesArguments}
 use Rattle.elab_terms.specs.declared.elab_fault.ElabFault.TheVariants.{IllTyped}
 use Rattle.elab_terms.proofs.Applications.{argument_size, base_size, never_applied}
@@ -46,13 +46,13 @@ read_term-unreachable-requires t c =
 pub read_abstraction-returns-then-binders-eq0-clause-refused : goal.read_abstraction-returns-then-binders-eq0-clause-refused
 read_abstraction-returns-then-binders-eq0-clause-refused t c =
     let a = c.args in
-    abstraction_ill (text_of a.reader.now) a.reader.now.sig.now a.names.now (typing_by a.reader.now a.scope.now) (tree_of a.abstraction.now.tree.now) (tree_of a.abstraction.now.body.now) a.abstraction.now.span a.wanted.now c.as_slice-binders.result.now c.in-Err.field-0
+    abstraction_ill (whole_text a.reader.now) a.reader.now.sig.now a.names.now (typing_by a.reader.now a.scope.now) (tree_of a.abstraction.now.tree.now) (tree_of a.abstraction.now.body.now) a.abstraction.now.span a.wanted.now c.as_slice-binders.result.now c.in-Err.field-0
     c.requires.base c.in-Err.ensures c.as_slice-binders.ensures c.if-binders-eq0.true
 
 pub read_abstraction-returns-in-Ok-clause-refused : goal.read_abstraction-returns-in-Ok-clause-refused
 read_abstraction-returns-in-Ok-clause-refused t c =
     let a = c.args in
-    abstraction_redex (text_of a.reader.now) a.reader.now.sig.now a.names.now (typing_by a.reader.now a.scope.now) (tree_of a.abstraction.now.tree.now) (tree_of a.abstraction.now.body.now) (tree_of c.in-Ok.field-0.now) a.abstraction.now.span (type_of a.wanted.now) c.requires.base c.in-Ok.ensures
+    abstraction_redex (whole_text a.reader.now) a.reader.now.sig.now a.names.now (typing_by a.reader.now a.scope.now) (tree_of a.abstraction.now.tree.now) (tree_of a.abstraction.now.body.now) (tree_of c.in-Ok.field-0.now) a.abstraction.now.span (type_of a.wanted.now) c.requires.base c.in-Ok.ensures
 
 pub read_abstraction-left_type-requires : goal.read_abstraction-left_type-requires
 read_abstraction-left_type-requires t c = some_binder c.as_slice-binders.result.now c.args.wanted.now.binders c.as_slice-binders.ensures c.if-binders-eq0.false
@@ -72,7 +72,7 @@ read_abstraction-read_term-requires t c =
         (
           c.requires.closed,
           (
-            known_under a.reader.now.sig.now Γ Δ a.names.now c.push.new.self (binder_name (text_of a.reader.now) a.abstraction.now.span) fb.0 typing names c.requires.known
+            known_under a.reader.now.sig.now Γ Δ a.names.now c.push.new.self (binder_name (whole_text a.reader.now) a.abstraction.now.span) fb.0 typing names c.requires.known
                 (wanted_binder a.reader.now.sig.now Γ (type_of a.wanted.now) fb.0 (type_of left) fb.1 c.requires.wanted),
             wanted_under a.reader.now.sig.now Γ Δ (type_of a.wanted.now) fb.0 (type_of left) typing fb.1 c.requires.wanted,
           ),
@@ -83,7 +83,7 @@ read_abstraction-read_term-requires t c =
 pub read_abstraction-returns-in-Err-read_term-clause-refused : goal.read_abstraction-returns-in-Err-read_term-clause-refused
 read_abstraction-returns-in-Err-read_term-clause-refused t c =
     let a = c.args in
-    let text = text_of a.reader.now in
+    let text = whole_text a.reader.now in
     let Γ = typing_by a.reader.now a.scope.now in
     let Δ = with_context (types_of (take 1 c.as_slice-binders.result.now)) Γ in
     let left = c.in_ok-left-in-Err.left in
@@ -97,7 +97,7 @@ read_abstraction-returns-in-Err-read_term-clause-refused t c =
 pub read_abstraction-returns-clause-read : goal.read_abstraction-returns-clause-read
 read_abstraction-returns-clause-read t c =
     let a = c.args in
-    let text = text_of a.reader.now in
+    let text = whole_text a.reader.now in
     let Γ = typing_by a.reader.now a.scope.now in
     let Δ = with_context (types_of (take 1 c.as_slice-binders.result.now)) Γ in
     let left = c.in_ok-left-in-Err.left in
@@ -133,7 +133,7 @@ read_application-returns-in-Ok-clause-refused t c =
     let resolved = ap (names.named_head a.reader.now.sig.now a.names.now) (sym c.text.ensures) ∙ sym c.head_named.ensures ∙ ap (option_map head_of) c.in-Some.is in
     let known = subst₂ (λ o ms. seen_type o ≡ typing_at a.reader.now.sig.now ms a.scope.now h) c.in-Some-2.is c.requires.closed c.in_ok-found.ensures in
     let place : c.len.result ≡ length domains = c.len.ensures ∙ sym (length-rename_context (next_by found.raise) found.binders.now) in
-    subst (λ n. RefusesTerm (text_of a.reader.now) a.reader.now.sig.now a.names.now Γ (tree_of a.tree.now) (type_of a.wanted.now) (IllTyped n)) (sym c.place.ensures)
+    subst (λ n. RefusesTerm (whole_text a.reader.now) a.reader.now.sig.now a.names.now Γ (tree_of a.tree.now) (type_of a.wanted.now) (IllTyped n)) (sym c.place.ensures)
     (refuses_extra a.names.now Γ (tree_of a.tree.now) (tree_of c.in-Ok.extra.now) a.span arguments h domains found.family args (type_of a.wanted.now) (c.requires.base, refl) resolved (seen Γ h found known)
     (subst (λ n. slice_get arguments n ≡ Some (tree_of c.in-Ok.extra.now)) place c.in-Ok.ensures))
 
@@ -169,7 +169,7 @@ read_application-read_arguments-requires t c =
 pub read_application-returns-in-Err-clause-refused : goal.read_application-returns-in-Err-clause-refused
 read_application-returns-in-Err-clause-refused t c =
     let a = c.args in
-    let text = text_of a.reader.now in
+    let text = whole_text a.reader.now in
     let Γ = typing_by a.reader.now a.scope.now in
     let h = head_of c.in-Some.head in
     let found = c.in-Some-2.found in
@@ -197,7 +197,7 @@ read_application-slice_bounds-type_after-end t c =
 pub read_application-type_after-requires-clause-puts : goal.read_application-type_after-requires-clause-puts
 read_application-type_after-requires-clause-puts t c =
     let a = c.args in
-    let text = text_of a.reader.now in
+    let text = whole_text a.reader.now in
     let Γ = typing_by a.reader.now a.scope.now in
     let h = head_of c.in-Some.head in
     let found = c.in-Some-2.found in
@@ -218,7 +218,7 @@ read_application-type_after-requires-clause-puts t c =
 pub read_application-returns-then-not-same_ty-clause-refused : goal.read_application-returns-then-not-same_ty-clause-refused
 read_application-returns-then-not-same_ty-clause-refused t c =
     let a = c.args in
-    let text = text_of a.reader.now in
+    let text = whole_text a.reader.now in
     let Γ = typing_by a.reader.now a.scope.now in
     let h = head_of c.in-Some.head in
     let found = c.in-Some-2.found in
@@ -241,7 +241,7 @@ read_application-returns-then-not-same_ty-clause-refused t c =
 pub read_application-expand-requires : goal.read_application-expand-requires
 read_application-expand-requires t c =
     let a = c.args in
-    let text = text_of a.reader.now in
+    let text = whole_text a.reader.now in
     let Γ = typing_by a.reader.now a.scope.now in
     let h = head_of c.in-Some.head in
     let found = c.in-Some-2.found in
@@ -259,7 +259,7 @@ read_application-expand-requires t c =
 pub read_application-returns-clause-read : goal.read_application-returns-clause-read
 read_application-returns-clause-read t c =
     let a = c.args in
-    let text = text_of a.reader.now in
+    let text = whole_text a.reader.now in
     let Γ = typing_by a.reader.now a.scope.now in
     let h = head_of c.in-Some.head in
     let found = c.in-Some-2.found in
@@ -284,7 +284,7 @@ read_arguments-loop-i-init t c =
     let none : c.new-terms.result.items ≡ [] = search rules in record {
       count = ap length none;
       within = omega arith;
-      read = subst (λ xs. ReadsArguments (text_of a.reader.now) a.reader.now.sig.now a.names.now (typing_by a.reader.now a.scope.now) stays [] [] (spine_of xs)) (sym none) (reads_none a.names.now (typing_by a.reader.now a.scope.now) stays);
+      read = subst (λ xs. ReadsArguments (whole_text a.reader.now) a.reader.now.sig.now a.names.now (typing_by a.reader.now a.scope.now) stays [] [] (spine_of xs)) (sym none) (reads_none a.names.now (typing_by a.reader.now a.scope.now) stays);
       names = refl;
     }
 
@@ -292,7 +292,7 @@ pub read_arguments-returns-in-Err-clause-read : goal.read_arguments-returns-in-E
 read_arguments-returns-in-Err-clause-read t c =
     let a = c.args in
     let i = c.loop-i.invariant in
-    arguments_read (text_of a.reader.now) a.reader.now.sig.now a.names.now (typing_by a.reader.now a.scope.now) (arguments_of (tree_of a.tree.now) []) a.head_type.now.raise c.loop-i.i c.as_slice-types.result.now a.head_type.now.binders.now (spine_of c.loop-i.terms.items)
+    arguments_read (whole_text a.reader.now) a.reader.now.sig.now a.names.now (typing_by a.reader.now a.scope.now) (arguments_of (tree_of a.tree.now) []) a.head_type.now.raise c.loop-i.i c.as_slice-types.result.now a.head_type.now.binders.now (spine_of c.loop-i.terms.items)
     (omega (arith, c.in-Err.ensures, i.within)) c.as_slice-types.ensures i.read
 
 pub read_arguments-slice_bounds-put_type-end : goal.read_arguments-slice_bounds-put_type-end
@@ -311,7 +311,7 @@ read_arguments-put_type-requires t c =
     let ss = c.as_slice-shapes.result.now in
     let ty = c.index-types-i.result in
     let shapes = shapes_of_read ss types a.shapes.now a.head_type.now.binders.now c.as_slice-shapes.ensures c.as_slice-types.ensures c.requires.shapes in
-    let typed = typed_before (text_of a.reader.now) a.reader.now.sig.now a.names.now Γ (arguments_of (tree_of a.tree.now) []) a.head_type.now.raise c.loop-i.i types a.head_type.now.binders.now terms c.requires.known.founded c.as_slice-types.ensures c.requires.domains.seen i.count i.read in
+    let typed = typed_before (whole_text a.reader.now) a.reader.now.sig.now a.names.now Γ (arguments_of (tree_of a.tree.now) []) a.head_type.now.raise c.loop-i.i types a.head_type.now.binders.now terms c.requires.known.founded c.as_slice-types.ensures c.requires.domains.seen i.count i.read in
     subst (λ xs. Puts (spine_of xs) (simple_types_of (take c.loop-i.i ss)) a.head_type.now.raise 0 (TypeShaped (type_of ty))) (take_all c.loop-i.i terms (omega (arith, i.count)) ∙ sym c.as_slice.ensures.value)
     (puts_binder (kind_shapes_in a.reader.now.sig.now) Γ a.head_type.now.raise terms types ss c.loop-i.i ty c.loop-i-test.true c.index-types-i.is shapes
     (subst (ShapedContext (kind_shapes_in a.reader.now.sig.now) (binders_scope Γ a.head_type.now.raise)) (sym c.as_slice-types.ensures) c.requires.domains.declared) typed)
@@ -327,7 +327,7 @@ read_arguments-read_term-requires t c =
     let ty = c.index-types-i.result in
     let wanted = type_of c.in_ok-ty-in-Ok.ty in
     let shapes = shapes_of_read ss types a.shapes.now a.head_type.now.binders.now c.as_slice-shapes.ensures c.as_slice-types.ensures c.requires.shapes in
-    let typed = typed_before (text_of a.reader.now) a.reader.now.sig.now a.names.now Γ (arguments_of (tree_of a.tree.now) []) a.head_type.now.raise c.loop-i.i types a.head_type.now.binders.now terms c.requires.known.founded c.as_slice-types.ensures c.requires.domains.seen i.count i.read in
+    let typed = typed_before (whole_text a.reader.now) a.reader.now.sig.now a.names.now Γ (arguments_of (tree_of a.tree.now) []) a.head_type.now.raise c.loop-i.i types a.head_type.now.binders.now terms c.requires.known.founded c.as_slice-types.ensures c.requires.domains.seen i.count i.read in
     let result = subst (λ xs. SubstitutedType (putting (spine_of xs) a.head_type.now.raise 0) (type_of ty) wanted) (c.as_slice.ensures.value ∙ sym (take_all c.loop-i.i terms (omega (arith, i.count)))) c.in_ok-ty-in-Ok.ensures.result in (
       omega (arith, c.decreases, argument_size (tree_of a.tree.now) c.loop-i.i (tree_of c.in-Ok.found.now) c.in-Ok.ensures),
       (
@@ -347,7 +347,7 @@ pub read_arguments-returns-in-Err-read_term-clause-refused : goal.read_arguments
 read_arguments-returns-in-Err-read_term-clause-refused t c =
     let a = c.args in
     let i = c.loop-i.invariant in
-    let text = text_of a.reader.now in
+    let text = whole_text a.reader.now in
     let Γ = typing_by a.reader.now a.scope.now in
     let terms = c.loop-i.terms.items in
     let types = c.as_slice-types.result.now in
@@ -365,7 +365,7 @@ pub read_arguments-loop-i-preserved : goal.read_arguments-loop-i-preserved
 read_arguments-loop-i-preserved t c =
     let a = c.args in
     let i = c.loop-i.invariant in
-    let text = text_of a.reader.now in
+    let text = whole_text a.reader.now in
     let Γ = typing_by a.reader.now a.scope.now in
     let terms = c.loop-i.terms.items in
     let types = c.as_slice-types.result.now in
@@ -388,7 +388,7 @@ read_arguments-returns-clause-read t c =
     let a = c.args in
     let i = c.loop-i.invariant in
     let count : length a.head_type.now.binders.now ≡ length c.as_slice-types.result.now = ap length (sym c.as_slice-types.ensures) ∙ length-types_of c.as_slice-types.result.now in
-    arguments_read (text_of a.reader.now) a.reader.now.sig.now a.names.now (typing_by a.reader.now a.scope.now) (arguments_of (tree_of a.tree.now) []) a.head_type.now.raise c.loop-i.i c.as_slice-types.result.now a.head_type.now.binders.now (spine_of c.loop-i.terms.items)
+    arguments_read (whole_text a.reader.now) a.reader.now.sig.now a.names.now (typing_by a.reader.now a.scope.now) (arguments_of (tree_of a.tree.now) []) a.head_type.now.raise c.loop-i.i c.as_slice-types.result.now a.head_type.now.binders.now (spine_of c.loop-i.terms.items)
     (omega (arith, c.loop-i-test.false, i.within, count, c.requires.few)) c.as_slice-types.ensures i.read
 
 pub read_arguments-returns-clause-count : goal.read_arguments-returns-clause-count

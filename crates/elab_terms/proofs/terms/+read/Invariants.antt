@@ -4,7 +4,7 @@ use Rattle.lf_terms.specs.Terms.{spine_of}
 use Rattle.file_trees.specs.Trees.{tree_size}
 use Rattle.file_trees.specs.TermViews.{tree_of}
 use Rattle.elab_terms.specs.Applied.{arguments_of}
-use Rattle.elab_terms.specs.Readers.{text_of, typing_by}
+use Rattle.elab_terms.specs.Readers.{whole_text, typing_by}
 use Rattle.elab_terms.specs.Terms.{ReadsArguments}
 use Rattle.elab_terms.proofs.Reading.{seen_types}
 use Rattle.elab_terms.proofs.terms.+read.Given as goal
@@ -25,6 +25,6 @@ abbrev pub invariant-read_arguments-loop-i : goal.invariant-read_arguments-loop-
 invariant-read_arguments-loop-i l = record {
   count : length l.terms.items ≡ l.i;
   within : l.i ≤ length (arguments_of (tree_of l.tree) []);
-  read : ReadsArguments (text_of l.reader) l.reader.sig.now l.fn.names (typing_by l.reader l.scope) stays (take l.i (arguments_of (tree_of l.tree) [])) (take l.i (seen_types l.head_type.raise l.types)) (spine_of l.terms.items);
+  read : ReadsArguments (whole_text l.reader) l.reader.sig.now l.fn.names (typing_by l.reader l.scope) stays (take l.i (arguments_of (tree_of l.tree) [])) (take l.i (seen_types l.head_type.raise l.types)) (spine_of l.terms.items);
   names : l.names ≡ l.fn.names;
 }

@@ -5,7 +5,7 @@ use Rattle.lf_terms.specs.Terms.{spine_of}
 use Rattle.file_trees.specs.TermViews.{tree_of, trees_of}
 use Rattle.file_trees.specs.Trees as trees
 use Rattle.elab_terms.specs.Names.{family_of}
-use Rattle.elab_terms.specs.Readers.{text_of, typing_by}
+use Rattle.elab_terms.specs.Readers.{whole_text, typing_by}
 use Rattle.elab_terms.specs.Terms.{ReadsArguments, RefusesArguments}
 use Rattle.elab_terms.specs.Types.{ReadsType, reads_family, RefusesType, refuses_family, refuses_few, refuses_family_argument, refuses_family_extra}
 use Rattle.elab_terms.specs.declared.elab_fault.ElabFault.TheVariants.{IllTyped}
@@ -37,7 +37,7 @@ read_terms-requires-clause-domains c =
 pub returns-in-Err-clause-refused : goal.returns-in-Err-clause-refused
 returns-in-Err-clause-refused c =
     let a = c.args in
-    let text = text_of a.reader.now in
+    let text = whole_text a.reader.now in
     let Γ = typing_by a.reader.now a.scope.now in
     let domains = c.kind_of.result.now.binders in
     let items = c.as_slice-items.result.now in
@@ -53,7 +53,7 @@ returns-in-Err-clause-refused c =
 pub returns-then-items-count-2-clause-refused : goal.returns-then-items-count-2-clause-refused
 returns-then-items-count-2-clause-refused c = λ count.
     let a = c.args in
-    let text = text_of a.reader.now in
+    let text = whole_text a.reader.now in
     let Γ = typing_by a.reader.now a.scope.now in
     let domains = c.kind_of.result.now.binders in
     let items = c.as_slice-items.result.now in
@@ -70,7 +70,7 @@ returns-then-items-count-2-clause-refused c = λ count.
 pub returns-clause-read : goal.returns-clause-read
 returns-clause-read c = λ count.
     let a = c.args in
-    let text = text_of a.reader.now in
+    let text = whole_text a.reader.now in
     let Γ = typing_by a.reader.now a.scope.now in
     let domains = c.kind_of.result.now.binders in
     let items = c.as_slice-items.result.now in

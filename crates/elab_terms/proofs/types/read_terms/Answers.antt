@@ -11,7 +11,7 @@ use Rattle.lf_kernel.specs.ShapedPlaces.{binders_scope}
 use Rattle.lf_kernel.proofs.Expected.{shapes_and_types, shapes_of_read, puts_binder, binder_expected}
 use Rattle.file_trees.specs.TermViews.{tree_of, trees_of}
 use Rattle.elab_terms.specs.KnownTypes.{KnownAt}
-use Rattle.elab_terms.specs.Readers.{text_of, typing_by}
+use Rattle.elab_terms.specs.Readers.{whole_text, typing_by}
 use Rattle.elab_terms.specs.Terms.{ReadsTerm, ReadsArguments, reads_none, RefusesTerm, RefusesArguments}
 use Rattle.elab_terms.proofs.Applications.{length-trees_of, slice_get-trees_of}
 use Rattle.elab_terms.proofs.Applying.{typed_before, argument_read, argument_refused, arguments_read}
@@ -24,7 +24,7 @@ loop-i-init c =
     let a = c.args in
     let none : c.new-terms.result.items ≡ [] = c.new-terms.ensures.items in record {
       count = ap length none;
-      read = subst (λ xs. ReadsArguments (text_of a.reader.now) a.reader.now.sig.now a.names.now (typing_by a.reader.now a.scope.now) stays [] [] (spine_of xs)) (sym none) (reads_none a.names.now (typing_by a.reader.now a.scope.now) stays);
+      read = subst (λ xs. ReadsArguments (whole_text a.reader.now) a.reader.now.sig.now a.names.now (typing_by a.reader.now a.scope.now) stays [] [] (spine_of xs)) (sym none) (reads_none a.names.now (typing_by a.reader.now a.scope.now) stays);
       names = refl;
     }
 
@@ -44,7 +44,7 @@ put_type-requires c =
     let ss = c.as_slice-shapes.result.now in
     let ty = c.index-types-i.result in
     let shapes = shapes_of_read ss types a.shapes.now a.binders.now c.as_slice-shapes.ensures c.as_slice-types.ensures c.requires.shapes in
-    let typed = typed_before (text_of a.reader.now) a.reader.now.sig.now a.names.now Γ (trees_of a.items.now) 0 c.loop-i.i types a.binders.now terms c.requires.known.founded c.as_slice-types.ensures c.requires.domains.seen i.count i.read in
+    let typed = typed_before (whole_text a.reader.now) a.reader.now.sig.now a.names.now Γ (trees_of a.items.now) 0 c.loop-i.i types a.binders.now terms c.requires.known.founded c.as_slice-types.ensures c.requires.domains.seen i.count i.read in
     subst (λ xs. Puts (spine_of xs) (simple_types_of (take c.loop-i.i ss)) 0 0 (TypeShaped (type_of ty))) (take_all c.loop-i.i terms (omega (arith, i.count)) ∙ sym c.as_slice.ensures.value)
     (puts_binder (kind_shapes_in a.reader.now.sig.now) Γ 0 terms types ss c.loop-i.i ty c.loop-i-test.true c.index-types-i.is shapes
     (subst (ShapedContext (kind_shapes_in a.reader.now.sig.now) (binders_scope Γ 0)) (sym c.as_slice-types.ensures) c.requires.domains.declared) typed)
@@ -65,7 +65,7 @@ read_term-requires c =
     let ty = c.index-types-i.result in
     let wanted = type_of c.in_ok-ty.ty in
     let shapes = shapes_of_read ss types a.shapes.now a.binders.now c.as_slice-shapes.ensures c.as_slice-types.ensures c.requires.shapes in
-    let typed = typed_before (text_of a.reader.now) a.reader.now.sig.now a.names.now Γ (trees_of a.items.now) 0 c.loop-i.i types a.binders.now terms c.requires.known.founded c.as_slice-types.ensures c.requires.domains.seen i.count i.read in
+    let typed = typed_before (whole_text a.reader.now) a.reader.now.sig.now a.names.now Γ (trees_of a.items.now) 0 c.loop-i.i types a.binders.now terms c.requires.known.founded c.as_slice-types.ensures c.requires.domains.seen i.count i.read in
     let result = subst (λ xs. SubstitutedType (putting (spine_of xs) 0 0) (type_of ty) wanted) (c.as_slice.ensures.value ∙ sym (take_all c.loop-i.i terms (omega (arith, i.count)))) c.in_ok-ty.ensures.result in record {
       cut = c.requires.cut;
       closed = c.requires.closed;
@@ -78,7 +78,7 @@ pub returns-in-Err-clause-refused : goal.returns-in-Err-clause-refused
 returns-in-Err-clause-refused c =
     let a = c.args in
     let i = c.loop-i.invariant in
-    let text = text_of a.reader.now in
+    let text = whole_text a.reader.now in
     let Γ = typing_by a.reader.now a.scope.now in
     let terms = c.loop-i.terms.items in
     let types = c.as_slice-types.result.now in
@@ -100,7 +100,7 @@ pub loop-i-preserved : goal.loop-i-preserved
 loop-i-preserved c =
     let a = c.args in
     let i = c.loop-i.invariant in
-    let text = text_of a.reader.now in
+    let text = whole_text a.reader.now in
     let Γ = typing_by a.reader.now a.scope.now in
     let terms = c.loop-i.terms.items in
     let types = c.as_slice-types.result.now in
@@ -124,7 +124,7 @@ pub returns-clause-read : goal.returns-clause-read
 returns-clause-read c =
     let a = c.args in
     let i = c.loop-i.invariant in
-    let text = text_of a.reader.now in
+    let text = whole_text a.reader.now in
     let Γ = typing_by a.reader.now a.scope.now in
     let types = c.as_slice-types.result.now in
     let arguments = trees_of a.items.now in

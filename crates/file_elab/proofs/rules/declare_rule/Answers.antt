@@ -3,7 +3,7 @@ use Rattle.rule_sets.proofs.Over.{rule_keeps_over}
 use Rattle.elab_terms.specs.KnownTypes.{IsRefusal}
 use Rattle.elab_terms.specs.FileTexts.{text_in}
 use Rattle.file_elab.specs.ProgramParts.{RefusesInBook}
-use Rattle.file_elab.specs.ReadRules.{tree_of}
+use Rattle.file_elab.specs.ReadRules.{declaration_of}
 use Rattle.file_elab.proofs.RuleReading.{rule_declared, rule_refused}
 use Rattle.file_elab.proofs.rules.declare_rule.Goals as goal
 
@@ -20,5 +20,5 @@ pub returns-in-Err-clause-refused : goal.returns-in-Err-clause-refused
 returns-in-Err-clause-refused c =
     let a = c.args in
     let text = text_in a.source.now in
-    subst (IsRefusal (RefusesInBook text a.sig.now a.book.now (tree_of a.parts))) (sym c.placed.ensures)
+    subst (IsRefusal (RefusesInBook text a.sig.now a.book.now (declaration_of a.parts))) (sym c.placed.ensures)
     (rule_refused text a.sig.now a.book.now a.parts c.in_ok-rule.rule c.in_ok-rule.ensures c.add.new.self c.in-Err.fault c.in-Err.ensures)
