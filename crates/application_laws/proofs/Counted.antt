@@ -84,7 +84,7 @@ pub record AddsOne (n : ℕ) (goals : List LfGoal) (g : LfGoal) (c : LfCandidate
   pub all_assigned : list_all (λ f. is_some (σ f.id)) c.opened.fresh ≡ true
   pub more_is : done.more ≡ goal_with (n + length c.opened.fresh) g kept (instance_of_atom goals σ c.opened.end) ∷ []
 
-abbrev one_more : ℕ → List LfGoal → LfGoal → LfCandidate → Assignment → List ℕ → Completion
+abbrev pub one_more : ℕ → List LfGoal → LfGoal → LfCandidate → Assignment → List ℕ → Completion
 one_more n goals g c σ kept = record {
   becomes_term = at (metavariable (n + length c.opened.fresh))
       (joined (kept_variables kept (length g.context) (kept_entries kept 0 g.context)) (arg (instance_of goals σ (at c.head c.opened.terms)) no_args));

@@ -123,12 +123,10 @@ goals_inside_are_shaped sig goals within shaped stay = (
         let whole = same_type (ShapedType-pis h.context (atomic h.target) is.0 is.1) (scope_in sig (inside within goals) []) (same h mentions) in
         (ShapedContext-pis h.context (atomic h.target) whole, ShapedType-under_pis h.context (atomic h.target) whole)
 
--- the numbers that are frozen
-frozen_inside : (within : ℕ → Bool) (n : ℕ) (goals : List LfGoal) (g : LfGoal) → All (λ h. h.id < n) goals → (outcome : Outcome) (m : ℕ) → (within m ≡ true) ⊎ (n ≤ m) →
-    freezing outcome (inside within goals) g m ≡ freezing outcome goals g m
-frozen_inside within n goals g below closes m where_ = refl
-frozen_inside within n goals g below (adds kept) m (inl is) = number_inside within goals m is
-frozen_inside within n goals g below (adds kept) m (inr high) =
+-- A number inside, or one above all, is a number of a goal inside where it is one of any.
+pub numbers_inside : (within : ℕ → Bool) (n : ℕ) (goals : List LfGoal) → All (λ h. h.id < n) goals → (m : ℕ) → (within m ≡ true) ⊎ (n ≤ m) → list_any (nat_eq m) (ids (inside within goals)) ≡ list_any (nat_eq m) (ids goals)
+numbers_inside within n goals below m (inl is) = number_inside within goals m is
+numbers_inside within n goals below m (inr high) =
     absent (inside within goals) (All-inside within (λ h. h.id < n) goals (All-weaker (λ h. h.id < n) (λ h. within h.id ≡ true → h.id < n) (λ h less is. less) goals below)) ∙ sym (absent goals below)
   where
     absent : (list : List LfGoal) → All (λ h. h.id < n) list → list_any (nat_eq m) (ids list) ≡ false
@@ -137,6 +135,12 @@ frozen_inside within n goals g below (adds kept) m (inr high) =
         step : (b : Bool) → list_any (nat_eq m) (ids list) ≡ b → b ≡ false
         step false e = refl
         step true e = let less = in_below m n list all e in absurd (omega (arith, less, high))
+
+-- the numbers that are frozen
+frozen_inside : (within : ℕ → Bool) (n : ℕ) (goals : List LfGoal) (g : LfGoal) → All (λ h. h.id < n) goals → (outcome : Outcome) (m : ℕ) → (within m ≡ true) ⊎ (n ≤ m) →
+    freezing outcome (inside within goals) g m ≡ freezing outcome goals g m
+frozen_inside within n goals g below closes m where_ = refl
+frozen_inside within n goals g below (adds kept) m where_ = numbers_inside within n goals below m where_
 
 pub candidates_are_unified_inside : CandidatesAreUnifiedInside
 candidates_are_unified_inside sig shaped_sig goals shaped n below within stay g one_of is rule method takes =

@@ -10,4 +10,9 @@ pub mod Counted
 pub mod GoalMentions
 pub mod Support
 pub mod Inside
+pub mod InstancesInside
+pub mod NewGoalTerms
+pub mod WholeAssignments
+pub mod SameApplications
+pub mod Framed
 pub mod Laws

@@ -18,7 +18,7 @@ use Rattle.application_laws.proofs.Members.{instance_id, All-fresh_left}
 abbrev pub HasNumberWithin : ℕ → ℕ → LfGoal → Type 0
 HasNumberWithin low high h = (low ≤ h.id) × (h.id < high)
 
-numbers_of : (n : ℕ) (fresh : List LfGoal) → Numbered n fresh → All (HasNumberWithin n (n + length fresh)) fresh
+pub numbers_of : (n : ℕ) (fresh : List LfGoal) → Numbered n fresh → All (HasNumberWithin n (n + length fresh)) fresh
 numbers_of n [] numbered = All-nil (HasNumberWithin n (n + 0))
 numbers_of n (h ∷ rest) numbered =
     let e = numbered.0 in

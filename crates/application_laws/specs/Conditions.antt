@@ -6,7 +6,7 @@ use Rattle.lf_definitions.specs.ShapedGoals.{scope_in, ShapedTypeIn, ShapedGoals
 use Rattle.lf_definitions.specs.Occurrence.{OccursIn, OccursInType, OccursInGoal}
 use Rattle.lf_definitions.specs.Typing.{LfGoal, type_at}
 use Rattle.lf_definitions.specs.Signatures.{LfSignature, constant_types}
-use Rattle.lf_definitions.specs.GoalLists.{ids, AreDistinct}
+use Rattle.lf_definitions.specs.GoalLists.{LfGoals, all_goals, ids, first_goal, AreDistinct}
 use Rattle.lf_definitions.specs.Instantiation.{assignment_of}
 use Rattle.unification.specs.Equations.{numbered_from}
 use Rattle.unification.specs.Solutions.{MentionedBy}
@@ -86,3 +86,14 @@ inside within (h ∷ rest) = if within h.id then h ∷ inside within rest else i
 -- No goal inside mentions one outside.
 abbrev pub MentionInside : (ℕ → Bool) → List LfGoal → Type 0
 MentionInside within goals = All (λ h. within h.id ≡ true → (m : ℕ) → OccursInGoal (metavariable m) h → within m ≡ true) goals
+
+-- the same of both parts of a list
+abbrev pub goals_inside : (ℕ → Bool) → LfGoals → LfGoals
+goals_inside within list = record { proofs = inside within list.proofs; witnesses = inside within list.witnesses }
+
+-- The goals are shaped, with numbers below `n`; those inside mention none outside, and the first goal is one of them.
+pub record BeginsInside (sig : LfSignature) (n : ℕ) (within : ℕ → Bool) (list : LfGoals) : Type 0 where
+  pub goals_are_shaped : ShapedGoals sig (all_goals list)
+  pub numbers_are_below : All (λ h. h.id < n) (all_goals list)
+  pub mention_inside : MentionInside within (all_goals list)
+  pub first_is_inside : (g : LfGoal) × (first_goal list ≡ Some g) × (within g.id ≡ true)

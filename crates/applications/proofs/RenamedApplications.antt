@@ -33,11 +33,11 @@ use Rattle.applications.proofs.RenamedCompletions.{where_true, rename_completion
 abbrev entry_by : ℕ → ℕ → LfTerm → LfAssigned
 entry_by g count body = record { assigned_goal = g; binders_count = count; body = body }
 
-abbrev application_by : LfLabel → List LfAssigned → List LfGoal → List LfGoal → Bool → LfApplication
+abbrev pub application_by : LfLabel → List LfAssigned → List LfGoal → List LfGoal → Bool → LfApplication
 application_by label assigned proofs witnesses others = record { label = label; assigned = assigned; proofs = proofs; witnesses = witnesses; assigns_others = others }
 
 -- a candidate with its whole assignment
-abbrev counted_with : LfSignature → List LfGoal → LfGoal → LfCandidate → List LfGoal → List LfAssigned → List LfGoal → List LfGoal → Option LfApplication
+abbrev pub counted_with : LfSignature → List LfGoal → LfGoal → LfCandidate → List LfGoal → List LfAssigned → List LfGoal → List LfGoal → Option LfApplication
 counted_with sig goals g c all whole more left =
     let σ = assignment_of whole in
     if entries_are_typed sig all σ left all
