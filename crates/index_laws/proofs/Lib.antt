@@ -1,0 +1,4 @@
+mod OpenedEnds
+mod Solutions
+mod Compatible
+mod Found
