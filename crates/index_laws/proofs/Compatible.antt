@@ -26,7 +26,7 @@ use Rattle.index_laws.specs.Laws.{RulesWithApplicationsAreCompatible}
 use Rattle.index_laws.proofs.OpenedEnds.{opened_end}
 use Rattle.index_laws.proofs.Solutions.{unified_are_solved, same_family, compatible_end}
 
-type_at-slice_get : (types : List LfType) (k : ℕ) → type_at types k ≡ slice_get types k
+pub type_at-slice_get : (types : List LfType) (k : ℕ) → type_at types k ≡ slice_get types k
 type_at-slice_get [] k = refl
 type_at-slice_get (a ∷ types) zero = refl
 type_at-slice_get (a ∷ types) (suc k) = type_at-slice_get types k

@@ -2,3 +2,4 @@ mod OpenedEnds
 mod Solutions
 mod Compatible
 mod Found
+mod TakenAtoms

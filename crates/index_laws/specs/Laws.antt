@@ -1,4 +1,4 @@
--- The laws of rules that have applications, on all goals.
+-- The laws of rules of a book and their applications: on all goals, a rule that has one is compatible.
 use Rattle.std.specs.Prelude.{◌≡◌, ℕ, List, true, Some, Contains, slice_get}
 use Rattle.lf_definitions.specs.Typing.{LfGoal}
 use Rattle.lf_definitions.specs.Signatures.{LfSignature}
@@ -8,6 +8,7 @@ use Rattle.rule_sets.specs.Refusals.{IsOver}
 use Rattle.rule_index.specs.Keys.{rule_key, is_compatible, keyed_rules, compatible_rules}
 use Rattle.applications.specs.Methods.{Method}
 use Rattle.applications.specs.Applications.{LfApplication, applications_to}
+use Rattle.application_laws.specs.Conditions.{TakesAtoms}
 use Rattle.index_laws.specs.RuleMethods.{IsMethodOf}
 
 -- Where a rule of a book over a signature has an application to a goal, its key is compatible with the goal's target.
@@ -23,3 +24,8 @@ RulesWithApplicationsAreFound =
     (sig : LfSignature) (book : Book) → IsOver sig book → (number : ℕ) (rule : Rule) → slice_get book.rules number ≡ Some rule → (method : Method) → IsMethodOf book rule method →
     (n : ℕ) (goals : List LfGoal) (g : LfGoal) (a : LfApplication) → Contains (applications_to sig number method n goals g) a →
     (numbers : List ℕ) → Contains numbers number → Contains (compatible_rules (keyed_rules sig book numbers) g.target) number
+
+-- The method of each rule of a book over a signature is asked for no argument with binders where a hypothesis is to stand.
+abbrev pub MethodsTakeAtoms : Type 0
+MethodsTakeAtoms =
+    (sig : LfSignature) (book : Book) → IsOver sig book → (number : ℕ) (rule : Rule) → slice_get book.rules number ≡ Some rule → (method : Method) → IsMethodOf book rule method → TakesAtoms sig method
