@@ -10,7 +10,7 @@ use Rattle.lf_definitions.specs.GoalLists.{LfGoals, all_goals, first_of, first_g
 use Rattle.lf_definitions.proofs.Options.{Some-Some}
 use Rattle.applications.specs.Methods.{Method, LfCandidate}
 use Rattle.applications.specs.Candidates.{candidates}
-use Rattle.applications.specs.Applications.{with_some, application_of, of_candidates, applications_to, at_first, applications}
+use Rattle.applications.specs.Applications.{LfApplication, with_some, application_of, of_candidates, applications_to, at_first, applications}
 use Rattle.application_laws.specs.Conditions.{TakesAtoms, inside, goals_inside, BeginsInside}
 use Rattle.application_laws.specs.Laws.{ApplicationsStayInside, ApplicationsAreFramed}
 use Rattle.application_laws.proofs.Inside.{All-inside, contains_inside, goals_inside_are_shaped, candidates_are_unified_inside}
@@ -60,19 +60,23 @@ module _ (sig : LfSignature) (shaped_sig : ShapedSignature sig) (n : ℕ) (withi
       let first = begins.first_is_inside in
       ap first_of (inside-append within list.proofs list.witnesses) ∙ first_inside within (all_goals list) first.0 first.1 first.2 ∙ sym first.1
 
-  among_inside : (list : LfGoals) → BeginsInside sig n within list → applications sig rule method n (goals_inside within list) ≡ applications sig rule method n list
-  among_inside list begins =
+  -- a list by its goals alone
+  abbrev of_goals : List LfGoal → List LfApplication
+  of_goals goals = at_first sig rule method n goals (first_of goals)
+
+  among_goals : (list : LfGoals) → BeginsInside sig n within list → of_goals (inside within (all_goals list)) ≡ applications sig rule method n list
+  among_goals list begins =
       let first = begins.first_is_inside in
       let goals = all_goals list in
-      ap (at_first sig rule method n (all_goals (goals_inside within list))) (same_first list begins ∙ first.1)
-      ∙ ap (λ others. applications_to sig rule method n others first.0) (inside-append within list.proofs list.witnesses)
+      ap (at_first sig rule method n (inside within goals)) (first_inside within goals first.0 first.1 first.2)
       ∙ applications_stay_inside sig shaped_sig goals begins.goals_are_shaped n begins.numbers_are_below within begins.mention_inside first.0 (first_is_one goals first.0 first.1) first.2 rule method takes
       ∙ sym (ap (at_first sig rule method n goals) first.1)
 
 pub applications_are_framed : ApplicationsAreFramed
-applications_are_framed sig shaped_sig n within list begins rule method takes = (
-  same_first sig shaped_sig n within rule method takes list begins,
-  among_inside sig shaped_sig n within rule method takes list begins,
-  λ other also same.
-  sym (among_inside sig shaped_sig n within rule method takes other also) ∙ ap (applications sig rule method n) same ∙ among_inside sig shaped_sig n within rule method takes list begins,
-)
+applications_are_framed sig shaped_sig n within list begins rule method takes =
+    let among = among_goals sig shaped_sig n within rule method takes in
+    let of = of_goals sig shaped_sig n within rule method takes in (
+      same_first sig shaped_sig n within rule method takes list begins,
+      ap of (inside-append within list.proofs list.witnesses) ∙ among list begins,
+      λ other also same. sym (among other also) ∙ ap of same ∙ among list begins,
+    )

@@ -151,9 +151,11 @@ module _ (sig : LfSignature) (goals : List LfGoal) (distinct : AreDistinct goals
     first_is_shaped : ShapedEntry Beyond first_entry
     first_is_shaped =
         let body = over_context g.context Beyond done.becomes_term (body_is_shaped done c.outcome completes) in
-        let shape = shape_of-pis g.context g.target.atom_family g.target.atom_args in
-        (shape_of (goal_type g), goal_has_shape,
-        grown_term (subst (Shaped Beyond (lams (length g.context) done.becomes_term)) (sym shape) body) (without_variables Beyond) (closed_scope sig (Everything ++ done.more)))
+        let shape = shape_of-pis g.context g.target.atom_family g.target.atom_args in (
+          shape_of (goal_type g),
+          goal_has_shape,
+          grown_term (subst (Shaped Beyond (lams (length g.context) done.becomes_term)) (sym shape) body) (without_variables Beyond) (closed_scope sig (Everything ++ done.more)),
+        )
       where
         goal_has_shape : Beyond (metavariable g.id) ≡ Some (shape_of (goal_type g))
         goal_has_shape =
@@ -179,9 +181,11 @@ module _ (sig : LfSignature) (goals : List LfGoal) (distinct : AreDistinct goals
         let from = under_all body.local Globals in
         let knows = KnowsGoals-under_all Everything body.local Globals (KnowsGoals-scope_in sig Everything []) in
         let result = ((instances_in_scope Everything (kind_shapes_in sig) from (under_all body.local Beyond) alone
-        (Goes-goals_depth Everything go.0 from (under_all body.local Beyond) alone knows go.1)).0 f.body body.shape body.is_shaped).1 in
-        (shaped.0, grows done.more [] (metavariable f.assigned_goal) shaped.0 (sym (under_all-metavariable (shapes_of_types g.context) Globals f.assigned_goal) ∙ shaped.1),
-        grown_term (body.over Beyond (instance_of Everything alone f.body) result) (without_variables Beyond) (closed_scope sig (Everything ++ done.more)))
+        (Goes-goals_depth Everything go.0 from (under_all body.local Beyond) alone knows go.1)).0 f.body body.shape body.is_shaped).1 in (
+          shaped.0,
+          grows done.more [] (metavariable f.assigned_goal) shaped.0 (sym (under_all-metavariable (shapes_of_types g.context) Globals f.assigned_goal) ∙ shaped.1),
+          grown_term (body.over Beyond (instance_of Everything alone f.body) result) (without_variables Beyond) (closed_scope sig (Everything ++ done.more)),
+        )
 
     pub whole_is_shaped : All (ShapedEntry Beyond) whole
     whole_is_shaped =

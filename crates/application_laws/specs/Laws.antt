@@ -3,7 +3,7 @@ use Rattle.std.specs.Prelude.{◌≡◌, ℕ, ◌<◌, Bool, true, List, ◌++�
 use Rattle.lf_definitions.specs.ShapedGoals.{ShapedSignature, ShapedGoals}
 use Rattle.lf_definitions.specs.Typing.{LfGoal}
 use Rattle.lf_definitions.specs.Signatures.{LfSignature}
-use Rattle.lf_definitions.specs.GoalLists.{LfGoals, first_goal}
+use Rattle.lf_definitions.specs.GoalLists.{LfGoals, all_goals, first_goal}
 use Rattle.lf_functions.specs.Endings.{unifier_of}
 use Rattle.applications.specs.Methods.{Method}
 use Rattle.applications.specs.Candidates.{candidates}
@@ -42,10 +42,10 @@ ApplicationsStayInside =
     applications_to sig rule method n (inside within goals) g ≡ applications_to sig rule method n goals g
 
 -- What the first goal doesn't reach takes no part: where a list begins inside, the goals inside have the same first goal by themselves, and a rule has the same applications
--- there, with the same first fresh number. So it has in every other list that begins inside and has the same goals inside.
+-- there, with the same first fresh number. So it has in every other list that begins inside and has the same goals inside, in the same order.
 abbrev pub ApplicationsAreFramed : Type 0
 ApplicationsAreFramed =
     (sig : LfSignature) → ShapedSignature sig → (n : ℕ) (within : ℕ → Bool) (list : LfGoals) → BeginsInside sig n within list → (rule : ℕ) (method : Method) → TakesAtoms sig method →
     (first_goal (goals_inside within list) ≡ first_goal list)
     × (applications sig rule method n (goals_inside within list) ≡ applications sig rule method n list)
-    × ((other : LfGoals) → BeginsInside sig n within other → goals_inside within other ≡ goals_inside within list → applications sig rule method n other ≡ applications sig rule method n list)
+    × ((other : LfGoals) → BeginsInside sig n within other → inside within (all_goals other) ≡ inside within (all_goals list) → applications sig rule method n other ≡ applications sig rule method n list)
