@@ -1,5 +1,6 @@
 -- Two terms that mention nothing that is assigned, one of which has a metavariable as its head.
-use Rattle.std.proofs.Common.{◌≡◌, ℕ, Bool, false, List, [], ◌∷◌, ◌++◌, Option, Some, None, refl, sym, ap, ◌∙◌, subst, subst₂}
+use Rattle.std.proofs.Common.{◌≡◌, ◌⊎◌, inl, inr, ℕ, Bool, true, false, List, [], ◌∷◌, ◌++◌, Option, Some, None, refl, sym, ap, ◌∙◌, subst, subst₂}
+use Rattle.std.proofs.lemmas.Bool.{both_ways}
 use Rattle.std.proofs.lemmas.List.Elements.{All-head, All-tail}
 use Rattle.lf_definitions.specs.Syntax.{LfHead, bound, constant, metavariable, LfTerm, lam, at, Spine, SimpleType, base, arrows}
 use Rattle.lf_definitions.specs.Shaping.{Scope, under_all, Shaped, shaped_at}
@@ -18,6 +19,7 @@ use Rattle.meta_goals.specs.Bindings.{LfBinding, assigned_of, binding_for}
 use Rattle.std.specs.Prelude.{option_map, IsTrue}
 use Rattle.meta_unify.specs.declared.stop.Stop.{Stop}
 use Rattle.meta_unify.specs.declared.stop.Cause.{Cause}
+use Rattle.meta_unify.specs.Equations.{is_flexible}
 use Rattle.meta_unify.specs.Endings.{reason_at, reason_for}
 use Rattle.meta_unify.specs.Standing.{Stands, MentionsNoneBound}
 use Rattle.meta_unify.specs.Walks.{LeadsTo, WalkPasses, WalkStops, Walked}
@@ -162,6 +164,17 @@ module _ (frozen : Frozen) (old : List LfBinding) where
 -- The reason that was found, where it is known which of both.
 pub reason_some : {o : Option Reason} (found : Option Cause) (cause : Cause) (path : List ℕ) → found ≡ Some cause → option_map (λ c. reason_at c path) found ≡ o → Some (reason_at cause path) ≡ o
 reason_some found cause path some is = sym (ap (option_map (λ c. reason_at c path)) some) ∙ is
+
+-- A term without a reason has no metavariable as its head, so one of two has a reason where the head of one is a metavariable.
+rigid_without_reason : (frozen : Frozen) (path : List ℕ) (t u : LfTerm) → reason_for frozen path t u ≡ None → is_flexible t ≡ false
+rigid_without_reason frozen path (lam b) u e = refl
+rigid_without_reason frozen path (at (bound n) ts) u e = refl
+rigid_without_reason frozen path (at (constant c) ts) u e = refl
+rigid_without_reason frozen path (at (metavariable g) ts) u e = absurd cc
+
+pub one_has_reason : (frozen : Frozen) (path : List ℕ) (t u : LfTerm) → (is_flexible t ≡ true) ⊎ (is_flexible u ≡ true) → reason_for frozen path t u ≡ None → reason_for frozen path u t ≡ None → ⊥
+one_has_reason frozen path t u (inl flexible) none none_right = both_ways (is_flexible t) (rigid_without_reason frozen path t u none) flexible
+one_has_reason frozen path t u (inr flexible) none none_right = both_ways (is_flexible u) (rigid_without_reason frozen path u t none_right) flexible
 
 not_both : {b : Bool} → b ≡ false → IsTrue b → ⊥
 not_both e h = cc

@@ -128,9 +128,9 @@ fn settle(
     if let Some(cause) = reason(alloc, frozen, left, right)? {
         return Ok(Some(stop_here(alloc, cause)));
     }
-    // The left head is no metavariable, so the right one is.
+    // The left head is no metavariable, so the right one is, and has a reason.
     match reason(alloc, frozen, right, left)? {
         Some(cause) => Ok(Some(stop_here(alloc, cause))),
-        None => Err(NoMemory),
+        None => unreachable!(),
     }
 }

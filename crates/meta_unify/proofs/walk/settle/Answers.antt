@@ -1,9 +1,10 @@
-use Rattle.std.proofs.Common.{sym, []}
+use Rattle.std.proofs.Common.{sym, ap, ◌∙◌, [], option_map}
 use Rattle.lf_terms.specs.Terms.{term_of}
 use Rattle.unification.specs.Patterns.{has_number}
 use Rattle.meta_goals.specs.Entries.{binding_of}
+use Rattle.meta_unify.specs.Endings.{reason_at}
 use Rattle.meta_unify.proofs.Solvable.{found_some, found_none, known_shapes}
-use Rattle.meta_unify.proofs.Settling.{settle_same, is_new, settle_left, settle_right, stop_left, stop_right, reason_some, terms_differ}
+use Rattle.meta_unify.proofs.Settling.{settle_same, is_new, settle_left, settle_right, stop_left, stop_right, reason_some, one_has_reason, terms_differ}
 use Rattle.meta_unify.proofs.walk.settle.Goals as goal
 
 pub returns-then-same : goal.returns-then-same
@@ -39,8 +40,13 @@ returns-in-Some-3 c =
     (found_none _ c.in_ok-id-2.field-0 c.in_default-2.not-Some c.in_ok-id-2.ensures.entry)
     (λ path. reason_some c.in_ok-cause.field-0 c.in-Some-3.cause path c.in-Some-3.is (c.in_ok-cause.ensures path)) c.stop_here.ensures.cause c.stop_here.ensures.steps
 
-pub returns-in-Some-4 : goal.returns-in-Some-4
-returns-in-Some-4 c =
+pub returns : goal.returns
+returns c =
     stop_right (has_number c.args.frozen.now) c.args.late.now c.args.late.now (term_of c.args.left.now) (term_of c.args.right.now) c.in-Some-4.cause c.stop_here-in-Some-4.result c.requires.left c.requires.right
     (sym (found_none _ c.in_ok-cause.field-0 c.in_default-3.not-Some (c.in_ok-cause.ensures []))) (found_none _ c.in_ok-id-2.field-0 c.in_default-2.not-Some c.in_ok-id-2.ensures.entry)
     (λ path. reason_some c.in_ok-cause-2.field-0 c.in-Some-4.cause path c.in-Some-4.is (c.in_ok-cause-2.ensures path)) c.stop_here-in-Some-4.ensures.cause c.stop_here-in-Some-4.ensures.steps
+
+pub unreachable-requires : goal.unreachable-requires
+unreachable-requires c =
+    one_has_reason (has_number c.args.frozen.now) [] (term_of c.args.left.now) (term_of c.args.right.now) c.requires.flexible
+    (found_none _ c.in_ok-cause.field-0 c.in_default-3.not-Some (c.in_ok-cause.ensures [])) (sym (c.in_ok-cause-2.ensures []) ∙ ap (option_map (λ k. reason_at k [])) c.in-None.is)
