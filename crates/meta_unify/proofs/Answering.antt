@@ -21,7 +21,7 @@ use Rattle.meta_goals.specs.declared.assign.Entry.{Entry}
 use Rattle.meta_goals.specs.Bindings.{LfBinding, assigned_of, binding_for}
 use Rattle.meta_goals.specs.Entries.{binding_of}
 use Rattle.meta_unify.specs.Standing.{newest_first, assigned_goals, KnowsContext, Stands, IsWorkable, Fills}
-use Rattle.meta_unify.proofs.Lookups.{newest_first-push}
+use Rattle.meta_unify.proofs.Lookups.{newest_first-push, not_bound}
 use Rattle.meta_unify.proofs.Instances.{closed}
 
 -- What is left of the kept entries is instantiated by what is left of the answer.
@@ -148,12 +148,6 @@ not_before (x ∷ xs) f ys e =
     or_from (nat_eq x.assigned_goal f.assigned_goal) (has_number (assigned_goals xs) f.assigned_goal)
     (false_from_ne_true (nat_eq x.assigned_goal f.assigned_goal) (λ q. both_ways (nat_eq f.assigned_goal x.assigned_goal) other (eq-eqb f.assigned_goal x.assigned_goal (sym (eqb-true x.assigned_goal f.assigned_goal q)))))
     (not_before xs f ys parts.1)
-
-not_bound : (bindings : List LfBinding) (g : ℕ) → has_number (assigned_goals (map assigned_of bindings)) g ≡ false → binding_for bindings g ≡ None
-not_bound [] g e = refl
-not_bound (b ∷ rest) g e =
-    let parts = or_parts (nat_eq b.number g) (has_number (assigned_goals (map assigned_of rest)) g) e in
-    ap (λ t. if t then Some b else binding_for rest g) parts.0 ∙ not_bound rest g parts.1
 
 pub answer_is_new : (self : List LfBinding) (kept : List (ℕ × Entry)) (answer : List LfBinding) (count i k : ℕ) (x : ℕ × Entry) → count ≡ length kept → i < count → k ≡ count - 1 - i → x ≡ get_or kept k x →
     ((Γ : Scope) × (entries : List LfAssigned) × Stands Γ self entries) → IsAnswered self kept answer i → binding_for answer x.0 ≡ None

@@ -1,5 +1,6 @@
 mod Ends
 mod Lookups
+mod Triangular
 mod Instances
 mod Steps
 mod Passing

@@ -53,6 +53,12 @@ no_entry_for (b ∷ rest) older g e more = each (nat_eq b.number g) refl (no_ent
         absurd cc
     each false f later = later (sym (ap (λ t. if t then Some b else binding_for rest g) f) ∙ e) (or_from (nat_eq b.number g) (has_number (assigned_goals older) g) f more)
 
+pub not_bound : (bindings : List LfBinding) (g : ℕ) → has_number (assigned_goals (map assigned_of bindings)) g ≡ false → binding_for bindings g ≡ None
+not_bound [] g e = refl
+not_bound (b ∷ rest) g e =
+    let parts = or_parts (nat_eq b.number g) (has_number (assigned_goals (map assigned_of rest)) g) e in
+    ap (λ t. if t then Some b else binding_for rest g) parts.0 ∙ not_bound rest g parts.1
+
 pub found_binding : (P : LfBinding → Type 0) (bindings : List LfBinding) (g : ℕ) (x : LfBinding) → All P bindings → binding_for bindings g ≡ Some x → P x × (x.number ≡ g)
 found_binding P [] g x all e = absurd cc
 found_binding P (b ∷ rest) g x all e = each (nat_eq b.number g) refl (found_binding P rest g x (All-tail P b rest all))

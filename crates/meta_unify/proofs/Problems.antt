@@ -32,6 +32,7 @@ nothing_stands Γ = record {
   differ = refl;
   resolved = λ g h u e o. absurd cc;
   contexts = All-nil (KnowsContext Γ);
+  triangular = tt;
 }
 
 spine_stays : (ts : Spine) → InstantiatedSpine (assignment_of []) ts ts

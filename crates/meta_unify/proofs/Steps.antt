@@ -21,9 +21,10 @@ use Rattle.unification.proofs.Solvings.{IsSolved}
 use Rattle.unifiers.proofs.Entries.{Meets, instance_from, meets_each, entries_closed, entries_go, Shaped-with_variables}
 use Rattle.unifiers.proofs.Solved.{local_follow, entries_follow}
 use Rattle.meta_goals.specs.Bindings.{LfBinding, assigned_of, binding_for}
-use Rattle.meta_unify.specs.Standing.{assigned_goals, Stands, KnowsContext}
+use Rattle.meta_unify.specs.Standing.{assigned_goals, Stands, KnowsContext, MentionsNoneBound}
 use Rattle.meta_unify.specs.Walks.{WalkBegins}
 use Rattle.meta_unify.proofs.Lookups.{newest_first-push, All-map_push, no_binding, assigned_goals-left, none-assigned_goals, assigned_goals-none, found_result, AllPairs-assigned_goals, differ_more}
+use Rattle.meta_unify.proofs.Triangular.{absent_push, triangular_push}
 use Rattle.meta_unify.proofs.Instances.{unchanged, instance_is_resolved, instance_of_itself, goes, closed, goes_under, newest_shaped, results_are_shaped}
 
 module _ (Γ : Scope) (kinds : ℕ → Option SimpleType) (frozen : Frozen) (bindings : List LfBinding) (entries : List LfAssigned) (stands : Stands Γ bindings entries)
@@ -51,8 +52,9 @@ module _ (Γ : Scope) (kinds : ℕ → Option SimpleType) (frozen : Frozen) (bin
   is_free : old b.number ≡ None
   is_free = left_none b.number (solved_mentions is_solved)
 
-  pub is_unbound : binding_for bindings b.number ≡ None
-  is_unbound = (no_binding bindings [] b.number (ap (λ ks. has_number ks b.number) (sym (assigned_goals-left stands.instantiated)) ∙ none-assigned_goals entries b.number is_free)).0
+  -- what has no entry has no binding
+  unbound_before : (g : ℕ) → old g ≡ None → binding_for bindings g ≡ None
+  unbound_before g none = (no_binding bindings [] g (ap (λ ks. has_number ks g) (sym (assigned_goals-left stands.instantiated)) ∙ none-assigned_goals entries g none)).0
 
   -- what has no entry and is not the new one has none after
   still_none : (g : ℕ) → old g ≡ None → nat_eq b.number g ≡ false → new g ≡ None
@@ -63,6 +65,9 @@ module _ (Γ : Scope) (kinds : ℕ → Option SimpleType) (frozen : Frozen) (bin
   -- what the body mentions
   body_none : (g : ℕ) → OccursIn (metavariable g) (lams e.binders_count e.body) → new g ≡ None
   body_none g o = let both = body_mentions is_solved g (OccursIn-under_lams e.binders_count e.body g o) in still_none g (right_none g both.0) both.1
+
+  body_full : MentionsNoneBound (bindings ++ b ∷ []) b.bound_body
+  body_full g o = let both = body_mentions is_solved g o in absent_push bindings b g (unbound_before g (right_none g both.0)) both.1
 
   -- what mentions nothing that was assigned mentions, under the new entry, nothing that is assigned
   result_none : (r x : LfTerm) → ((g : ℕ) → OccursIn (metavariable g) r → old g ≡ None) → Instantiated one r x → (g : ℕ) → OccursIn (metavariable g) x → new g ≡ None
@@ -185,6 +190,7 @@ module _ (Γ : Scope) (kinds : ℕ → Option SimpleType) (frozen : Frozen) (bin
     differ = differ;
     resolved = is_resolved;
     contexts = All-push (KnowsContext Γ) bindings b stands.contexts shapes;
+    triangular = triangular_push bindings b stands.triangular body_full;
   }
 
   -- And the equations that are left are as the definition leaves them.

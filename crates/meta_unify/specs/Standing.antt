@@ -22,6 +22,14 @@ assigned_goals (e ∷ rest) = e.assigned_goal ∷ assigned_goals rest
 abbrev pub KnowsContext : Scope → LfBinding → Type 0
 KnowsContext Γ b = (s : SimpleType) → Γ (metavariable b.number) ≡ Some s → s ≡ arrows b.shapes base
 
+abbrev pub MentionsNot : ℕ → LfTerm → Type 0
+MentionsNot g t = OccursIn (metavariable g) t → ⊥
+
+-- No body mentions a goal that was bound with it or before it: the bindings are triangular (Baader and Snyder 2001).
+abbrev pub IsTriangular : List LfBinding → Type 0
+IsTriangular [] = Unit
+IsTriangular (b ∷ rest) = All (λ c. MentionsNot b.number c.bound_body) (b ∷ rest) × IsTriangular rest
+
 -- The bodies of bindings may mention goals that were bound later; instantiated by all entries, they are the bodies of these.
 pub record Stands (Γ : Scope) (bindings : List LfBinding) (entries : List LfAssigned) : Type 0 where
   pub instantiated : InstantiatedEntries (assignment_of entries) (newest_first bindings []) entries
@@ -30,6 +38,7 @@ pub record Stands (Γ : Scope) (bindings : List LfBinding) (entries : List LfAss
   pub differ : are_different (assigned_goals entries) ≡ true
   pub resolved : (g h : ℕ) (u : LfTerm) → assignment_of entries g ≡ Some u → OccursIn (metavariable h) u → assignment_of entries h ≡ None
   pub contexts : All (KnowsContext Γ) bindings
+  pub triangular : IsTriangular bindings
 
 -- Bindings stand for entries in some scope in which terms have a shape, under local binders.
 pub record IsWorkable (bindings : List LfBinding) (t u : LfTerm) : Type 0 where

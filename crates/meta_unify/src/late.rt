@@ -65,7 +65,8 @@ impl Late {
         }
     }
 
-    // A term with all that is assigned put for its metavariables, until it mentions nothing that is assigned.
+    // A term with all that is assigned put for its metavariables, until it mentions nothing that is assigned. A body mentions only goals
+    // that were assigned later, so after each pass one more is mentioned no longer.
     pub fn full(&self, alloc: Global, term: &Term) -> Result<Term, NoMemory>
         requires { IsWorkable self.now (term_of term.now) (term_of term.now) }
         ensures full { IfOk result (λ r. MentionsNoneBound self.now (term_of r)) }
@@ -77,9 +78,6 @@ impl Late {
                 return Ok(result);
             }
             result = instantiate(alloc, &self.assign, &result)?;
-        }
-        if mentions(&self.assign, &result) {
-            return Err(NoMemory);
         }
         Ok(result)
     }
