@@ -10,11 +10,12 @@ ghost use Rattle.unification.specs.Patterns.{has_number};
 ghost use Rattle.unification.specs.Transitions.{Unifies};
 
 use crate::equations::{Equation, Equations};
-use crate::late::Late;
+use crate::late::resolved;
 use crate::stop::{Cause, Stop, refusal, stop_here, stop_in};
 use crate::unified::Unified;
 use crate::walk::unify_args;
 use basics::{Ids, NoMemory};
+use meta_goals::Assign;
 use std::alloc::Global;
 
 /// Unifies equations, in which the metavariables of some goals are frozen: these are assigned nothing. It ends as the transitions of the
@@ -25,9 +26,9 @@ pub fn unify(alloc: Global, frozen: &Ids, equations: &Equations) -> Result<Unifi
     ensures ending { IfOk result (λ unified. Unifies (has_number frozen.now) (numbered_from 0 equations.now) (ending_of unified)) }
     ensures contexts { IfOk result (λ unified. AnswerKnowsContexts equations.now unified) }
 {
-    let mut late = Late::new(alloc);
+    let mut late = Assign::new(alloc);
     match unify_all(alloc, frozen, &mut late, equations)? {
-        None => Ok(Unified::Solved(late.answer(alloc)?)),
+        None => Ok(Unified::Solved(resolved(alloc, &late)?)),
         Some(stop) => Ok(refusal(stop)),
     }
 }
@@ -36,7 +37,7 @@ pub fn unify(alloc: Global, frozen: &Ids, equations: &Equations) -> Result<Unifi
 fn unify_all(
     alloc: Global,
     frozen: &Ids,
-    late: &mut Late,
+    late: &mut Assign,
     equations: &Equations,
 ) -> Result<Option<Stop>, NoMemory>
     requires fresh { late.old ≡ [] }
@@ -57,7 +58,7 @@ fn unify_all(
 fn unify_atoms(
     alloc: Global,
     frozen: &Ids,
-    late: &mut Late,
+    late: &mut Assign,
     equation: &Equation,
 ) -> Result<Option<Stop>, NoMemory>
     requires { AtomsAreWorkable late.old (atoms_of equation.now) }

@@ -8,12 +8,13 @@ ghost use Rattle.meta_unify.specs.Walks.{Walked};
 ghost use Rattle.unification.specs.Equations.{of_terms, argument_equations};
 ghost use Rattle.unification.specs.Patterns.{has_number};
 
-use crate::late::Late;
+use crate::late::full;
 use crate::solving::{is_flexible, is_same_head, reason, solve};
 use crate::stop::{Cause, Stop, stop_here, stop_in};
 use basics::{Ids, NoMemory};
 use lf_terms::same::same;
 use lf_terms::{Term, Terms};
+use meta_goals::Assign;
 use std::alloc::Global;
 
 // Makes two terms one, or stops. What is assigned is put in only where a head is a metavariable. `room` is how much deeper a walk may go.
@@ -21,7 +22,7 @@ use std::alloc::Global;
 pub fn unify_terms(
     alloc: Global,
     frozen: &Ids,
-    late: &mut Late,
+    late: &mut Assign,
     room: u32,
     left: &Term,
     right: &Term,
@@ -35,8 +36,8 @@ pub fn unify_terms(
     if !is_flexible(left) && !is_flexible(right) {
         return unify_heads(alloc, frozen, &mut *late, room - 1, left, right);
     }
-    let left = late.full(alloc, left)?;
-    let right = late.full(alloc, right)?;
+    let left = full(alloc, &*late, left)?;
+    let right = full(alloc, &*late, right)?;
     if is_flexible(&left) || is_flexible(&right) {
         return settle(alloc, frozen, &mut *late, &left, &right);
     }
@@ -48,7 +49,7 @@ pub fn unify_terms(
 fn unify_heads(
     alloc: Global,
     frozen: &Ids,
-    late: &mut Late,
+    late: &mut Assign,
     room: u32,
     left: &Term,
     right: &Term,
@@ -81,7 +82,7 @@ fn unify_heads(
 pub fn unify_args(
     alloc: Global,
     frozen: &Ids,
-    late: &mut Late,
+    late: &mut Assign,
     room: u32,
     left: &Terms,
     right: &Terms,
@@ -104,7 +105,7 @@ pub fn unify_args(
 fn settle(
     alloc: Global,
     frozen: &Ids,
-    late: &mut Late,
+    late: &mut Assign,
     left: &Term,
     right: &Term,
 ) -> Result<Option<Stop>, NoMemory>

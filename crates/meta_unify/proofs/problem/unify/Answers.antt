@@ -3,19 +3,19 @@ use Rattle.meta_unify.specs.Endings.{ending_of}
 use Rattle.meta_unify.proofs.Problems.{problem_stands, problem_solved, problem_contexts, problem_refused}
 use Rattle.meta_unify.proofs.problem.unify.Goals as goal
 
-pub answer-requires : goal.answer-requires
-answer-requires c =
+pub resolved-requires : goal.resolved-requires
+resolved-requires c =
     problem_stands (has_number c.args.frozen.now) c.new-late.result c.unify_all.new.late c.args.equations.now c.in_ok-unify_all.field-0 c.new-late.ensures c.requires c.in-None.is c.in_ok-unify_all.ensures
 
 pub returns-in-None-clause-ending : goal.returns-in-None-clause-ending
 returns-in-None-clause-ending c =
-    problem_solved (has_number c.args.frozen.now) c.new-late.result c.unify_all.new.late c.in_ok-answer-in-None.field-0 c.args.equations.now c.in_ok-unify_all.field-0 c.new-late.ensures c.requires c.in-None.is
-    c.in_ok-unify_all.ensures c.in_ok-answer-in-None.ensures.entries
+    problem_solved (has_number c.args.frozen.now) c.new-late.result c.unify_all.new.late c.in_ok-resolved-in-None.field-0 c.args.equations.now c.in_ok-unify_all.field-0 c.new-late.ensures c.requires c.in-None.is
+    c.in_ok-unify_all.ensures c.in_ok-resolved-in-None.ensures.entries
 
 pub returns-in-None-clause-contexts : goal.returns-in-None-clause-contexts
 returns-in-None-clause-contexts c =
-    problem_contexts (has_number c.args.frozen.now) c.new-late.result c.unify_all.new.late c.in_ok-answer-in-None.field-0 c.args.equations.now c.in_ok-unify_all.field-0 c.new-late.ensures c.in-None.is
-    c.in_ok-unify_all.ensures c.in_ok-answer-in-None.ensures.contexts
+    problem_contexts (has_number c.args.frozen.now) c.new-late.result c.unify_all.new.late c.in_ok-resolved-in-None.field-0 c.args.equations.now c.in_ok-unify_all.field-0 c.new-late.ensures c.in-None.is
+    c.in_ok-unify_all.ensures c.in_ok-resolved-in-None.ensures.contexts
 
 pub returns-clause-ending : goal.returns-clause-ending
 returns-clause-ending c =

@@ -17,7 +17,7 @@ push-requires c =
 
 pub returns-in-Some : goal.returns-in-Some
 returns-in-Some c =
-    settle_left (has_number c.args.frozen.now) c.args.late.now c.push.new.self (term_of c.args.left.now) (term_of c.args.right.now) (binding_of (c.in-Some.id, c.in-Some.entry)) c.in_ok-push.ensures
+    settle_left (has_number c.args.frozen.now) c.args.late.now c.push.new.self (term_of c.args.left.now) (term_of c.args.right.now) (binding_of (c.in-Some.id, c.in-Some.entry)) c.in_ok-push.ensures.ok
     c.requires.left c.requires.right (found_some c.in_ok-id.field-0 c.in-Some.id c.in-Some.entry c.in-Some.is c.in_ok-id.ensures.entry)
     (known_shapes c.in_ok-id.field-0 c.in-Some.id c.in-Some.entry c.in-Some.is c.in_ok-id.ensures.shapes)
 
@@ -29,7 +29,7 @@ push-requires-in-Some-2 c =
 pub returns-in-Some-2 : goal.returns-in-Some-2
 returns-in-Some-2 c =
     settle_right (has_number c.args.frozen.now) c.args.late.now c.push-in-Some-2.new.self (term_of c.args.left.now) (term_of c.args.right.now) (binding_of (c.in-Some-2.id, c.in-Some-2.entry))
-    c.in_ok-push-2.ensures c.requires.left c.requires.right (found_none _ c.in_ok-id.field-0 c.in_default.not-Some c.in_ok-id.ensures.entry)
+    c.in_ok-push-2.ensures.ok c.requires.left c.requires.right (found_none _ c.in_ok-id.field-0 c.in_default.not-Some c.in_ok-id.ensures.entry)
     (found_some c.in_ok-id-2.field-0 c.in-Some-2.id c.in-Some-2.entry c.in-Some-2.is c.in_ok-id-2.ensures.entry)
     (known_shapes c.in_ok-id-2.field-0 c.in-Some-2.id c.in-Some-2.entry c.in-Some-2.is c.in_ok-id-2.ensures.shapes)
 
