@@ -1,3 +1,4 @@
+mod FrozenNumbers
 mod Ends
 mod Lookups
 mod Triangular

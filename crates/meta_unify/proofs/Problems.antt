@@ -1,4 +1,5 @@
 -- Equations between atoms, one after another, and the whole problem.
+use mathlib.Core.Path.{fun_ext}
 use Rattle.std.proofs.Common.{◌≡◌, ℕ, zero, suc, ◌+◌, ◌<◌, ◌≤◌, List, [], ◌∷◌, ◌++◌, length, reverse, get_or, take, map, All, Option, Some, None, refl, sym, ap, ap₂, ◌∙◌, subst, subst₂, arith, append-nil, add-one}
 use Rattle.std.proofs.lemmas.List.Elements.{All-nil, All-head, All-tail}
 use Rattle.lf_definitions.specs.Syntax.{LfHead, bound, constant, metavariable, Spine, LfAtom, atomic, SimpleType}
@@ -7,6 +8,7 @@ use Rattle.lf_definitions.specs.Occurrence.{OccursInSpine}
 use Rattle.lf_definitions.specs.Substitution.{stays}
 use Rattle.lf_definitions.specs.Instantiation.{instantiating, InstantiatedSpine, LfAssigned, assignment_of}
 use Rattle.head_laws.proofs.Replacing.{SubstitutedSpine-stays, SubstitutedSpine-agree}
+use Rattle.unification.specs.Patterns.{has_number}
 use Rattle.unification.specs.Equations.{LfEquation, of_atoms, numbered_from, argument_equations, Ending, solved, refused, InstantiatedEquations, instantiated_atoms, no_equation, one_equation, no_entry}
 use Rattle.unification.specs.Transitions.{Frozen, leaving, Ends, ends_solved, Unifies}
 use Rattle.unification.specs.Solutions.{ShapedEquation, ShapedEquations, ShapedEntry}
@@ -145,6 +147,10 @@ take_all (x ∷ rest) (suc i) past = ap (λ xs. x ∷ xs) (take_all rest i (omeg
 pub atoms_pass_all : (frozen : Frozen) (old new : List LfBinding) (pairs : List (LfAtom × LfAtom)) (items : List Equation) (i : ℕ) → map atoms_of items ≡ pairs → length items ≤ i → WalkPasses frozen old new (first_ones i items) →
     WalkPasses frozen old new (numbered_from 0 pairs)
 atoms_pass_all frozen old new pairs items i is past passes = subst (λ ps. WalkPasses frozen old new (numbered_from 0 ps)) (ap (map atoms_of) (take_all items i past) ∙ is) passes
+
+-- Of frozen goals it matters alone which there are.
+pub same_frozen : (ns ms : List ℕ) → ((g : ℕ) → has_number ns g ≡ has_number ms g) → (equations : List LfEquation) (ending : Ending) → Unifies (has_number ns) equations ending → Unifies (has_number ms) equations ending
+same_frozen ns ms same equations ending unifies = subst (λ frozen. Unifies frozen equations ending) (fun_ext same) unifies
 
 -- The whole problem.
 problem_begins : (pairs : List (LfAtom × LfAtom)) (shaped : IsShapedProblem pairs) (old : List LfBinding) → old ≡ [] → WalkBegins shaped.0 shaped.1 old (numbered_from 0 pairs ++ []) [] (numbered_from 0 pairs)

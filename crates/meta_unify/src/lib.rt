@@ -3,6 +3,7 @@
 #![tactic(auto)]
 
 pub mod equations;
+mod frozen;
 mod late;
 mod mentions;
 pub mod problem;

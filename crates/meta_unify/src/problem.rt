@@ -10,6 +10,7 @@ ghost use Rattle.unification.specs.Patterns.{has_number};
 ghost use Rattle.unification.specs.Transitions.{Unifies};
 
 use crate::equations::{Equation, Equations};
+use crate::frozen::FrozenGoals;
 use crate::late::resolved;
 use crate::stop::{Cause, Stop, refusal, stop_here, stop_in};
 use crate::unified::Unified;
@@ -26,8 +27,9 @@ pub fn unify(alloc: Global, frozen: &Ids, equations: &Equations) -> Result<Unifi
     ensures ending { IfOk result (λ unified. Unifies (has_number frozen.now) (numbered_from 0 equations.now) (ending_of unified)) }
     ensures contexts { IfOk result (λ unified. AnswerKnowsContexts equations.now unified) }
 {
+    let goals = FrozenGoals::from_ids(alloc, frozen)?;
     let mut late = Assign::new(alloc);
-    match unify_all(alloc, frozen, &mut late, equations)? {
+    match unify_all(alloc, &goals, &mut late, equations)? {
         None => Ok(Unified::Solved(resolved(alloc, &late)?)),
         Some(stop) => Ok(refusal(stop)),
     }
@@ -36,7 +38,7 @@ pub fn unify(alloc: Global, frozen: &Ids, equations: &Equations) -> Result<Unifi
 // Makes the sides of each equation one, or stops.
 fn unify_all(
     alloc: Global,
-    frozen: &Ids,
+    frozen: &FrozenGoals,
     late: &mut Assign,
     equations: &Equations,
 ) -> Result<Option<Stop>, NoMemory>
@@ -57,7 +59,7 @@ fn unify_all(
 // Makes two atoms one, or stops.
 fn unify_atoms(
     alloc: Global,
-    frozen: &Ids,
+    frozen: &FrozenGoals,
     late: &mut Assign,
     equation: &Equation,
 ) -> Result<Option<Stop>, NoMemory>

@@ -12,9 +12,10 @@ ghost use Rattle.meta_unify.specs.Shapes.{KnowsShapes};
 ghost use Rattle.unification.specs.Patterns.{has_number};
 ghost use Rattle.unification.specs.Transitions.{solving, has_head};
 
+use crate::frozen::FrozenGoals;
 use crate::shapes::shapes_shown;
 use crate::stop::Cause;
-use basics::{Ids, NoMemory};
+use basics::NoMemory;
 use lf_terms::{Head, Term};
 use meta_goals::Entry;
 use meta_patterns::{occurs, occurs_plainly, pattern_of};
@@ -23,7 +24,7 @@ use std::alloc::Global;
 // What the metavariable at the left term's head is assigned, if that term is solvable for the right one.
 pub fn solve(
     alloc: Global,
-    frozen: &Ids,
+    frozen: &FrozenGoals,
     left: &Term,
     right: &Term,
 ) -> Result<Option<(u32, Entry)>, NoMemory>
@@ -36,7 +37,7 @@ pub fn solve(
     let Head::Meta(goal) = *head else {
         return Ok(None);
     };
-    if is_among(frozen, goal) || occurs(goal, right) {
+    if frozen.has(goal) || occurs(goal, right) {
         return Ok(None);
     }
     let Some(pattern) = pattern_of(alloc, args)? else {
@@ -53,7 +54,7 @@ pub fn solve(
 // The reason of the left term against the right one, if its head is a metavariable.
 pub fn reason(
     alloc: Global,
-    frozen: &Ids,
+    frozen: &FrozenGoals,
     left: &Term,
     right: &Term,
 ) -> Result<Option<Cause>, NoMemory>
@@ -66,7 +67,7 @@ pub fn reason(
     let Some(pattern) = pattern_of(alloc, args)? else {
         return Ok(Some(Cause::Unclear));
     };
-    if is_among(frozen, goal) {
+    if frozen.has(goal) {
         return Ok(Some(Cause::Unclear));
     }
     if has_head(goal, right) {
@@ -82,19 +83,6 @@ pub fn reason(
         return Ok(Some(Cause::Unclear));
     }
     Ok(Some(Cause::Hidden))
-}
-
-// Whether a number is one of these.
-pub fn is_among(numbers: &Ids, number: u32) -> bool
-    ensures { result ≡ has_number numbers.now number }
-{
-    let items = numbers.as_slice();
-    for i in 0..items.len() {
-        if items[i] == number {
-            return true;
-        }
-    }
-    false
 }
 
 // Whether a term's head is a goal's metavariable.

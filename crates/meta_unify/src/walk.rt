@@ -8,10 +8,11 @@ ghost use Rattle.meta_unify.specs.Walks.{Walked};
 ghost use Rattle.unification.specs.Equations.{of_terms, argument_equations};
 ghost use Rattle.unification.specs.Patterns.{has_number};
 
+use crate::frozen::FrozenGoals;
 use crate::late::full;
 use crate::solving::{is_flexible, is_same_head, reason, solve};
 use crate::stop::{Cause, Stop, stop_here, stop_in};
-use basics::{Ids, NoMemory};
+use basics::NoMemory;
 use lf_terms::same::same;
 use lf_terms::{Term, Terms};
 use meta_goals::Assign;
@@ -21,7 +22,7 @@ use std::alloc::Global;
 #[cycle(walk)]
 pub fn unify_terms(
     alloc: Global,
-    frozen: &Ids,
+    frozen: &FrozenGoals,
     late: &mut Assign,
     room: u32,
     left: &Term,
@@ -48,7 +49,7 @@ pub fn unify_terms(
 #[cycle(walk)]
 fn unify_heads(
     alloc: Global,
-    frozen: &Ids,
+    frozen: &FrozenGoals,
     late: &mut Assign,
     room: u32,
     left: &Term,
@@ -81,7 +82,7 @@ fn unify_heads(
 #[cycle(walk)]
 pub fn unify_args(
     alloc: Global,
-    frozen: &Ids,
+    frozen: &FrozenGoals,
     late: &mut Assign,
     room: u32,
     left: &Terms,
@@ -104,7 +105,7 @@ pub fn unify_args(
 // Two terms that mention nothing that is assigned, one of which has a metavariable as its head.
 fn settle(
     alloc: Global,
-    frozen: &Ids,
+    frozen: &FrozenGoals,
     late: &mut Assign,
     left: &Term,
     right: &Term,

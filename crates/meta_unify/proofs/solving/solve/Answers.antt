@@ -8,7 +8,7 @@ use Rattle.meta_unify.proofs.solving.solve.Goals as goal
 pub returns-clause-entry : goal.returns-clause-entry
 returns-clause-entry c =
     solve_entry (has_number c.args.frozen.now) (term_of c.args.left.now) (term_of c.args.right.now) c.in-Meta.goal c.in-At.args c.in-Some.pattern (record { shapes = c.in_ok-shapes.shapes; body = c.in_ok-body.body })
-    (ap term_of c.in-At.is ∙ ap (λ h. at (head_of h) c.in-At.args) c.in-Meta.is) (sym c.is_among.ensures ∙ c.if-is_among.false) (sym c.occurs.ensures ∙ c.if-occurs.false)
+    (ap term_of c.in-At.is ∙ ap (λ h. at (head_of h) c.in-At.args) c.in-Meta.is) (sym c.has.ensures ∙ c.if-has.false) (sym c.occurs.ensures ∙ c.if-occurs.false)
     (sym c.in_ok-pattern.ensures ∙ c.in-Some.is) (sym c.in_ok-covers.ensures ∙ c.if-not-branch.false) c.in_ok-shapes.ensures c.in_ok-body.ensures
 
 pub returns-clause-shapes : goal.returns-clause-shapes
