@@ -1,6 +1,6 @@
 -- Equations between atoms, one after another, and the whole problem.
 use mathlib.Core.Path.{fun_ext}
-use Rattle.std.proofs.Common.{◌≡◌, ℕ, zero, suc, ◌+◌, ◌<◌, ◌≤◌, List, [], ◌∷◌, ◌++◌, length, reverse, get_or, take, map, All, Option, Some, None, refl, sym, ap, ap₂, ◌∙◌, subst, subst₂, arith, append-nil, add-one}
+use Rattle.std.proofs.Common.{◌≡◌, ℕ, zero, suc, ◌+◌, ◌<◌, ◌≤◌, List, [], ◌∷◌, ◌++◌, length, reverse, get_or, take, take_all, map, All, Option, Some, None, refl, sym, ap, ap₂, ◌∙◌, subst, subst₂, arith, append-nil, add-one}
 use Rattle.std.proofs.lemmas.List.Elements.{All-nil, All-head, All-tail}
 use Rattle.lf_definitions.specs.Syntax.{LfHead, bound, constant, metavariable, Spine, LfAtom, atomic, SimpleType}
 use Rattle.lf_definitions.specs.Shaping.{Scope, ShapedType}
@@ -138,15 +138,9 @@ atoms_stay frozen old mid new pairs items i x r stop other items_are within is p
     (subst (λ qs. WalkStops frozen old qs reason) (sym more.1)
     (stays_before frozen old (first_ones (i + 1) items) more.0 reason (subst (λ qs. WalkStops frozen old qs reason) (sym (more_atoms items i x within is)) joined)))
 
-take_all : (items : List Equation) (i : ℕ) → length items ≤ i → take i items ≡ items
-take_all [] zero past = refl
-take_all [] (suc i) past = refl
-take_all (x ∷ rest) zero past = absurd (omega arith)
-take_all (x ∷ rest) (suc i) past = ap (λ xs. x ∷ xs) (take_all rest i (omega arith))
-
 pub atoms_pass_all : (frozen : Frozen) (old new : List LfBinding) (pairs : List (LfAtom × LfAtom)) (items : List Equation) (i : ℕ) → map atoms_of items ≡ pairs → length items ≤ i → WalkPasses frozen old new (first_ones i items) →
     WalkPasses frozen old new (numbered_from 0 pairs)
-atoms_pass_all frozen old new pairs items i is past passes = subst (λ ps. WalkPasses frozen old new (numbered_from 0 ps)) (ap (map atoms_of) (take_all items i past) ∙ is) passes
+atoms_pass_all frozen old new pairs items i is past passes = subst (λ ps. WalkPasses frozen old new (numbered_from 0 ps)) (ap (map atoms_of) (take_all i items past) ∙ is) passes
 
 -- Of frozen goals it matters alone which there are.
 pub same_frozen : (ns ms : List ℕ) → ((g : ℕ) → has_number ns g ≡ has_number ms g) → (equations : List LfEquation) (ending : Ending) → Unifies (has_number ns) equations ending → Unifies (has_number ms) equations ending

@@ -1,5 +1,5 @@
 -- Steps of the walk, with the equations of the code as premises.
-use Rattle.std.proofs.Common.{◌≡◌, ℕ, zero, suc, ◌+◌, ◌<◌, ◌≤◌, false, List, [], ◌∷◌, ◌++◌, length, reverse, get_or, take, Option, Some, None, refl, sym, ap, ap₂, ◌∙◌, subst, subst₂, arith, append_assoc, append-nil, add-one}
+use Rattle.std.proofs.Common.{◌≡◌, ℕ, zero, suc, ◌+◌, ◌<◌, ◌≤◌, false, List, [], ◌∷◌, ◌++◌, length, reverse, get_or, take, take_all, Option, Some, None, refl, sym, ap, ap₂, ◌∙◌, subst, subst₂, arith, append_assoc, append-nil, add-one}
 use Rattle.std.proofs.lemmas.Bool.{not-false, both_ways}
 use Rattle.std.proofs.lemmas.List.{reverse-append}
 use Rattle.lf_definitions.specs.Syntax.{LfHead, LfTerm, lam, at, Spine, SimpleType, arity, args_count}
@@ -238,13 +238,7 @@ args_stay frozen old mid new left right ts us i t u r stop other left_is right_i
         subst (λ qs. WalkStops frozen old qs reason) (sym more.1)
         (stays_before frozen old (so_far path (i + 1) ts us) more.0 reason (subst (λ qs. WalkStops frozen old qs reason) (sym (more_args ts us i t u within lengths e f path)) joined))
 
-take_all : (ts : List Term) (i : ℕ) → length ts ≤ i → take i ts ≡ ts
-take_all [] zero past = refl
-take_all [] (suc i) past = refl
-take_all (t ∷ ts) zero past = absurd (omega arith)
-take_all (t ∷ ts) (suc i) past = ap (λ xs. t ∷ xs) (take_all ts i (omega arith))
-
 pub args_pass_all : (frozen : Frozen) (old new : List LfBinding) (left right : Spine) (ts us : List Term) (i : ℕ) → spine_of ts ≡ left → spine_of us ≡ right → length ts ≡ length us → length ts ≤ i →
     ((path : List ℕ) → WalkPasses frozen old new (so_far path i ts us)) → Walked frozen old new (λ path. argument_equations path 0 left right) None
 args_pass_all frozen old new left right ts us i left_is right_is lengths past passes path =
-    subst₂ (λ x y. WalkPasses frozen old new (argument_equations path 0 x y)) (ap spine_of (take_all ts i past) ∙ left_is) (ap spine_of (take_all us i (omega arith)) ∙ right_is) (passes path)
+    subst₂ (λ x y. WalkPasses frozen old new (argument_equations path 0 x y)) (ap spine_of (take_all i ts past) ∙ left_is) (ap spine_of (take_all i us (omega arith)) ∙ right_is) (passes path)

@@ -1,5 +1,4 @@
 use Rattle.std.proofs.Common.{◌-◌, refl, sym, ap, arith}
-use Rattle.lf_terms.specs.Terms.{term_of}
 use Rattle.meta_goals.specs.Entries.{binding_of}
 use Rattle.meta_unify.proofs.Answering.{contexts_begin, answer_begins, is_there, answer_instantiates, answer_is_new, contexts_go_on, answer_goes_on, answer_ends}
 use Rattle.meta_unify.proofs.late.resolved.Goals as goal
