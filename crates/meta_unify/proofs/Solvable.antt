@@ -1,7 +1,7 @@
 -- What the code finds where a term is solvable for another.
-use Rattle.std.proofs.Common.{◌≡◌, ℕ, zero, suc, true, false, not, ◌&&◌, List, [], ◌∷◌, ◌++◌, length, get_or, drop, ◌+◌, ◌<◌, Option, Some, None, refl, sym, ap, ap₂, ◌∙◌, subst, append_assoc}
+use Rattle.std.proofs.Common.{◌≡◌, ℕ, zero, suc, Bool, true, false, not, ◌&&◌, List, [], ◌∷◌, ◌++◌, length, get_or, drop, ◌+◌, ◌<◌, Option, Some, None, refl, sym, ap, ap₂, ◌∙◌, subst, append_assoc}
 use Rattle.std.specs.Prelude.{if◌then◌else◌, option_map}
-use Rattle.std.proofs.lemmas.Bool.{and_from, not_from_false}
+use Rattle.std.proofs.lemmas.Bool.{and_from, and_parts}
 use Rattle.lf_definitions.specs.Syntax.{LfHead, bound, metavariable, LfTerm, at, Spine, no_args, arg, SimpleType, base, arrow, arrows, arity, lams}
 use Rattle.lf_definitions.specs.Renaming.{rename}
 use Rattle.lf_definitions.specs.Shaping.{Scope, Shaped, shaped_at}
@@ -56,14 +56,28 @@ shapes_more all xs old new i x s within is more shape before =
     ∙ sym (append_assoc (simple_types_of old) (simple_type_of s ∷ []) rest)
     ∙ ap (λ ss. ss ++ rest) (sym (simple_types_of-append old s) ∙ ap simple_types_of (sym more))
 
+-- What is frozen, or occurs in the term, has no entry.
+and_none : (x y z : Bool) → (x && y) ≡ false → (x && (y && z)) ≡ false
+and_none true y z e = ap (λ b. b && z) e
+and_none false y z e = refl
+
+pub solve_none : (frozen : Frozen) (t u : LfTerm) (g : ℕ) (args : Spine) → t ≡ at (metavariable g) args → (not (frozen g) && not (occurs_in (metavariable g) u)) ≡ false → None ≡ solving frozen t u
+solve_none frozen t u g args term refused = sym (ap (λ x. solving frozen x u) term ∙ each (pattern_of args))
+  where
+    each : (o : Option (List ℕ)) → entry_for frozen g o u ≡ None
+    each None = refl
+    each (Some ns) =
+        ap (λ b. if b then Some (record { assigned_goal = g; binders_count = length ns; body = rename (placed ns) u }) else None)
+        (and_none (not (frozen g)) (not (occurs_in (metavariable g) u)) (is_over ns u) refused)
+
 -- The entry is the definition's.
 
-pub solve_entry : (frozen : Frozen) (t u : LfTerm) (g : ℕ) (args : Spine) (ns : List ℕ) (e : Entry) → t ≡ at (metavariable g) args → frozen g ≡ false → occurs_in (metavariable g) u ≡ false → pattern_of args ≡ Some ns →
+pub solve_entry : (frozen : Frozen) (t u : LfTerm) (g : ℕ) (args : Spine) (ns : List ℕ) (e : Entry) → t ≡ at (metavariable g) args → (not (frozen g) && not (occurs_in (metavariable g) u)) ≡ true → pattern_of args ≡ Some ns →
     is_over ns u ≡ true → e.shapes ≡ shapes_shown args → term_of e.body ≡ rename (placed ns) u → Some (assigned_of (binding_of (g, e))) ≡ solving frozen t u
-solve_entry frozen t u g args ns e term unfrozen none pattern over shapes body =
+solve_entry frozen t u g args ns e term allowed pattern over shapes body =
+    let parts = and_parts (not (frozen g)) (not (occurs_in (metavariable g) u)) allowed in
     let tests =
-    and_from (not (frozen g)) (not (occurs_in (metavariable g) u) && is_over ns u) (not_from_false (frozen g) unfrozen)
-    (and_from (not (occurs_in (metavariable g) u)) (is_over ns u) (not_from_false (occurs_in (metavariable g) u) none) over) in
+    and_from (not (frozen g)) (not (occurs_in (metavariable g) u) && is_over ns u) parts.0 (and_from (not (occurs_in (metavariable g) u)) (is_over ns u) parts.1 over) in
     let count : length e.shapes ≡ length ns = ap length shapes ∙ length-shapes_shown args ns (pattern_of-Some args ns pattern).0 in
     ap₂ (λ n b. Some (record { assigned_goal = g; binders_count = n; body = b })) count body
     ∙ sym (ap (λ b. if b then Some (record { assigned_goal = g; binders_count = length ns; body = rename (placed ns) u }) else None) tests)

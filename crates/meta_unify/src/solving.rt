@@ -1,7 +1,7 @@
 //! When a side of an equation is solvable for the other, and why not.
 
-ghost use Rattle.std.specs.Prelude.{◌≡◌, IfOk, List, ℕ, Some, option_map};
-ghost use Rattle.head_laws.specs.Mentions.{same_head};
+ghost use Rattle.std.specs.Prelude.{◌≡◌, IfOk, List, ℕ, Some, option_map, not, ◌&&◌};
+ghost use Rattle.head_laws.specs.Mentions.{same_head, occurs_in};
 ghost use Rattle.lf_definitions.specs.Syntax.{metavariable};
 ghost use Rattle.lf_terms.specs.Terms.{head_of, term_of};
 ghost use Rattle.meta_goals.specs.Bindings.{assigned_of};
@@ -37,7 +37,7 @@ pub fn solve(
     let Head::Meta(goal) = *head else {
         return Ok(None);
     };
-    if frozen.has(goal) || occurs(goal, right) {
+    if !may_become(frozen, goal, right) {
         return Ok(None);
     }
     let Some(pattern) = pattern_of(alloc, args)? else {
@@ -49,6 +49,13 @@ pub fn solve(
     let shapes = shapes_shown(alloc, args)?;
     let body = pattern.placed(alloc, right)?;
     Ok(Some((goal, Entry { shapes, body })))
+}
+
+// Whether a goal may become a term: it is not frozen, and does not occur in the term.
+fn may_become(frozen: &FrozenGoals, goal: u32, term: &Term) -> bool
+    ensures { result ≡ (not (has_number frozen.now goal) && not (occurs_in (metavariable goal) (term_of term.now))) }
+{
+    !frozen.has(goal) && !occurs(goal, term)
 }
 
 // The reason of the left term against the right one, if its head is a metavariable.
