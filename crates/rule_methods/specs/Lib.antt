@@ -1,0 +1,2 @@
+pub mod RuleMethods
+pub mod Laws
