@@ -1,5 +1,5 @@
 -- A rule with an application is compatible.
-use Rattle.std.proofs.Common.{◌≡◌, ℕ, zero, suc, Bool, true, false, Some, List, [], ◌∷◌, All, refl, sym, ap, ◌∙◌, subst}
+use Rattle.std.proofs.Common.{◌≡◌, ℕ, zero, suc, Bool, true, false, Option, Some, None, List, [], ◌∷◌, All, refl, sym, ap, ◌∙◌, subst}
 use Rattle.std.specs.Prelude.{nat_eq, ◌&&◌, if◌then◌else◌, slice_get}
 use Rattle.std.proofs.lemmas.Bool.{eqb-true, eq-eqb}
 use Rattle.std.proofs.lemmas.List.Elements.{All-nil, All-cons, All-head, All-tail, All-append, All-contains}
@@ -11,7 +11,7 @@ use Rattle.lf_definitions.proofs.Options.{Some-Some}
 use Rattle.unification.specs.Equations.{of_atoms, numbered_from}
 use Rattle.unification.specs.Solutions.{Solves, SolvesAll}
 use Rattle.applications.specs.OpenedTypes.{opening_of}
-use Rattle.applications.specs.Methods.{Method, applies, constructs, splits, LfLabel, LfCandidate}
+use Rattle.applications.specs.Methods.{applies, constructs, splits, LfLabel, LfCandidate}
 use Rattle.applications.specs.Candidates.{LfHypothesis, hypotheses_of, are_atomic, places_of, each, backward, constructed, argument_type, kept_by_splitting, split, candidates}
 use Rattle.applications.specs.Applications.{freezing, of_candidates, applications_to}
 use Rattle.application_laws.proofs.Lists.{All-where_some, All-each}
@@ -21,7 +21,7 @@ use Rattle.rule_sets.specs.declared.rule.Builder.TheVariants.{Apply, Constructor
 use Rattle.rule_sets.specs.Books.{Book, Listed, list_of}
 use Rattle.rule_sets.specs.Refusals.{HasFamily, IsListOver, IsOver}
 use Rattle.rule_index.specs.Keys.{RuleKey, of_family, conclusion_key, type_key, builder_key, rule_key, is_compatible}
-use Rattle.index_laws.specs.RuleMethods.{HasMethod}
+use Rattle.rule_methods.specs.RuleMethods.{listed_or_none, place_of_major, method_by, method_of}
 use Rattle.index_laws.specs.Laws.{RulesWithApplicationsAreCompatible}
 use Rattle.index_laws.proofs.OpenedEnds.{opened_end}
 use Rattle.index_laws.proofs.Solutions.{unified_are_solved, same_family, compatible_end}
@@ -124,29 +124,28 @@ listed_family sig (first ∷ rest) all f constants e = step (nat_eq first.of_fam
     step false same there later = later there
 
 module _ (sig : LfSignature) (book : Book) (over : IsOver sig book) (number n : ℕ) (goals : List LfGoal) (g : LfGoal) where
-  compatible_by : (b : Builder) (subject major : ℕ) (method : Method) → HasMethod book b subject major method →
-      All (λ a. is_compatible (builder_key sig b subject) g.target ≡ true) (applications_to sig number method n goals g)
+  compatible_by : (b : Builder) (subject major : ℕ) → All (λ a. is_compatible (builder_key sig b subject) g.target ≡ true) (applications_to sig number (method_by book.lists b subject major) n goals g)
   unfolding applications_to
-  compatible_by Apply subject major method is =
-      let key = builder_key sig Apply subject in
-      subst (λ m. All (λ a. is_compatible key g.target ≡ true) (of_candidates sig n goals g (candidates sig number m g n))) (sym is)
-      (fitting sig number n g key goals (candidates sig number (applies subject) g n) (applies_fits sig number n g subject))
-  compatible_by Constructors subject major method (constants, listed, is) =
-      let key = builder_key sig Constructors subject in
-      subst (λ m. All (λ a. is_compatible key g.target ≡ true) (of_candidates sig n goals g (candidates sig number m g n))) (sym is)
-      (fitting sig number n g key goals (candidates sig number (constructs constants) g n) (constructors_fit sig number n g subject 0 constants (listed_family sig book.lists over.lists subject constants listed)))
-  compatible_by Cases subject major method (place, counted, is) =
-      let key = builder_key sig Cases subject in
-      subst (λ m. All (λ a. is_compatible key g.target ≡ true) (of_candidates sig n goals g (candidates sig number m g n))) (sym is)
-      (fitting sig number n g key goals (candidates sig number (splits subject place) g n) (splits_fits sig number n g subject place))
-  compatible_by Forward subject major method is = λ k d less. refl
-  compatible_by Destruct subject major method is = λ k d less. refl
-  compatible_by Assumption subject major method is = λ k d less. refl
-  compatible_by Hyps subject major method is = λ k d less. refl
+  compatible_by Apply subject major =
+      fitting sig number n g (builder_key sig Apply subject) goals (candidates sig number (applies subject) g n) (applies_fits sig number n g subject)
+  compatible_by Constructors subject major = by_list (list_of book.lists subject) refl
+    where
+      by_list : (o : Option (List ℕ)) → list_of book.lists subject ≡ o →
+          All (λ a. is_compatible (builder_key sig Constructors subject) g.target ≡ true) (of_candidates sig n goals g (candidates sig number (constructs (listed_or_none o)) g n))
+      by_list None unlisted = All-nil (λ a. is_compatible (builder_key sig Constructors subject) g.target ≡ true)
+      by_list (Some constants) listed =
+          fitting sig number n g (builder_key sig Constructors subject) goals (candidates sig number (constructs constants) g n)
+          (constructors_fit sig number n g subject 0 constants (listed_family sig book.lists over.lists subject constants listed))
+  compatible_by Cases subject major =
+      fitting sig number n g (builder_key sig Cases subject) goals (candidates sig number (splits subject (place_of_major major)) g n) (splits_fits sig number n g subject (place_of_major major))
+  compatible_by Forward subject major = λ k d less. refl
+  compatible_by Destruct subject major = λ k d less. refl
+  compatible_by Assumption subject major = λ k d less. refl
+  compatible_by Hyps subject major = λ k d less. refl
 
 pub rules_with_applications_are_compatible : RulesWithApplicationsAreCompatible
-rules_with_applications_are_compatible sig book over number rule there method is n goals g a found =
+rules_with_applications_are_compatible sig book over number rule there n goals g a found =
     let key = rule_key sig (slice_get book.rules number) in
-    All-contains (λ x. is_compatible key g.target ≡ true) (applications_to sig number method n goals g) a
-    (subst (λ o. All (λ x. is_compatible (rule_key sig o) g.target ≡ true) (applications_to sig number method n goals g)) (sym there)
-    (compatible_by sig book over number n goals g rule.builder rule.subject rule.major method is)) found
+    All-contains (λ x. is_compatible key g.target ≡ true) (applications_to sig number (method_of book.lists rule) n goals g) a
+    (subst (λ o. All (λ x. is_compatible (rule_key sig o) g.target ≡ true) (applications_to sig number (method_of book.lists rule) n goals g)) (sym there)
+    (compatible_by sig book over number n goals g rule.builder rule.subject rule.major)) found

@@ -33,5 +33,5 @@ module _ (sig : LfSignature) (book : Book) (target : LfAtom) (number : ℕ) wher
       step false later = later
 
 pub rules_with_applications_are_found : RulesWithApplicationsAreFound
-rules_with_applications_are_found sig book over number rule there method is n goals g a one numbers among =
-    found sig book g.target number (rules_with_applications_are_compatible sig book over number rule there method is n goals g a one) numbers among
+rules_with_applications_are_found sig book over number rule there n goals g a one numbers among =
+    found sig book g.target number (rules_with_applications_are_compatible sig book over number rule there n goals g a one) numbers among

@@ -2,4 +2,3 @@ mod OpenedEnds
 mod Solutions
 mod Compatible
 mod Found
-mod TakenAtoms

@@ -1,2 +1,1 @@
-pub mod RuleMethods
 pub mod Laws

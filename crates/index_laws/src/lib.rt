@@ -2,7 +2,7 @@
 //! Each law is the contract of a function with an empty body; there is no code.
 #![tactic(auto)]
 
-ghost use Rattle.index_laws.specs.Laws.{RulesWithApplicationsAreCompatible, RulesWithApplicationsAreFound, MethodsTakeAtoms};
+ghost use Rattle.index_laws.specs.Laws.{RulesWithApplicationsAreCompatible, RulesWithApplicationsAreFound};
 
 /// A rule with an application to a goal has a key that is compatible with the goal's target.
 pub fn rules_with_applications_are_compatible()
@@ -12,9 +12,4 @@ pub fn rules_with_applications_are_compatible()
 /// So it is among the compatible rules, wherever it is among the rules.
 pub fn rules_with_applications_are_found()
     ensures { RulesWithApplicationsAreFound }
-{}
-
-/// The methods of a book's rules are such as the laws of applications among shaped goals ask for.
-pub fn methods_take_atoms()
-    ensures { MethodsTakeAtoms }
 {}
