@@ -42,9 +42,9 @@ fn types_mention(types: &Tys, id: u32) -> bool
     false
 }
 
-// Whether a term mentions it.
+/// Whether a term mentions a metavariable, as `mentions` answers it of a goal.
 #[cycle(term_mentions)]
-fn term_mentions(term: &Term, id: u32) -> bool
+pub fn term_mentions(term: &Term, id: u32) -> bool
     ensures { IsTrue result ↔ OccursIn (metavariable id) (term_of term.now) }
 {
     match term {
