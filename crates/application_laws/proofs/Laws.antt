@@ -45,7 +45,7 @@ module _ (sig : LfSignature) (shaped_sig : ShapedSignature sig) (goals : List Lf
   hypotheses_known : All IsHypothesis (hypotheses_of g.context)
   hypotheses_known = all_hypotheses (kind_shapes_in sig) (scope_in sig goals []) 0 g.context is_one.0
 
-  atoms_known : All (IsAtom sig goals shaped n below g is_one) (are_atomic (hypotheses_of g.context))
+  pub atoms_known : All (IsAtom sig goals shaped n below g is_one) (are_atomic (hypotheses_of g.context))
   atoms_known = All-are_atomic IsHypothesis (hypotheses_of g.context) hypotheses_known
 
   one : (c : LfCandidate) → May c → All May (c ∷ [])
@@ -74,7 +74,7 @@ module _ (sig : LfSignature) (shaped_sig : ShapedSignature sig) (goals : List Lf
       (λ m o. in_context (metavariable m) g.context (atomic g.target) (mentions m o)))
 
   -- A split may keep all, or all but its hypothesis.
-  split_fits : (type : LfType) (major : ℕ) (h : LfHypothesis) → HasAtomAt type major → IsAtom sig goals shaped n below g is_one h → All (FixesArgument g.context type) ((major, h.place) ∷ [])
+  pub split_fits : (type : LfType) (major : ℕ) (h : LfHypothesis) → HasAtomAt type major → IsAtom sig goals shaped n below g is_one h → All (FixesArgument g.context type) ((major, h.place) ∷ [])
   split_fits type major h has atom =
       All-cons (FixesArgument g.context type) (major, h.place) [] (argument_fits sig goals shaped n below g is_one type major h has atom) (All-nil (FixesArgument g.context type))
 
@@ -100,7 +100,7 @@ module _ (sig : LfSignature) (shaped_sig : ShapedSignature sig) (goals : List Lf
         others_mention_kept = λ i a there free. binders_mention g.context h.place sig type (constant_is_closed sig shaped_sig c type is) major later i a there;
       }
 
-  split_may : (c : ℕ) (type : LfType) → type_at (constant_types sig) c ≡ Some type → (major : ℕ) (h : LfHypothesis) → All (FixesArgument g.context type) ((major, h.place) ∷ []) →
+  pub split_may : (c : ℕ) (type : LfType) → type_at (constant_types sig) c ≡ Some type → (major : ℕ) (h : LfHypothesis) → All (FixesArgument g.context type) ((major, h.place) ∷ []) →
       MayBeOpened sig goals g.context (kept_by_splitting type major g h.place) ((major, h.place) ∷ []) n type
   split_may c type is major h fits = step (drops type major g h.place) refl
     where
