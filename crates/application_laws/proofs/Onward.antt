@@ -10,7 +10,7 @@ use Rattle.lf_definitions.specs.Occurrence.{occurs_family, OccursInType}
 use Rattle.lf_definitions.specs.Typing.{LfGoal, type_at}
 use Rattle.lf_definitions.specs.Signatures.{LfSignature, constant_types}
 use Rattle.opening_laws.specs.Openings.{LfOpened}
-use Rattle.opening_laws.specs.Conditions.{FixesArgument}
+use Rattle.opening_laws.specs.Conditions.{FixesArgument, MayBeOpened}
 use Rattle.applications.specs.Candidates.{places_of, LfHypothesis, premises_from, argument_type, paired, premise_equations, onward}
 use Rattle.application_laws.specs.Conditions.{HasAtomAt, MayBeUsed}
 use Rattle.application_laws.proofs.Lists.{no_pairs, IsAtomicHypothesis}
@@ -68,13 +68,20 @@ module _ (sig : LfSignature) (goals : List LfGoal) (shaped : ShapedGoals sig goa
       (argument_is_good sig goals shaped n below g is_one type o known k first.0 first.1 first.2, hypothesis_is_good o h (All-head IsAtom h hs all))
       (premises_are_good type o known ks hs (All-tail (HasAtomAt type) k ks atoms) (All-tail IsAtom h hs all))
 
+  -- where hypotheses stand for the premises
+  pub onward_may_be_opened : ShapedSignature sig → (c : ℕ) (type : LfType) → type_at (constant_types sig) c ≡ Some type → All (HasAtomAt type) (premises_from 0 type) → (hs : List LfHypothesis) →
+      All IsAtom hs → MayBeOpened sig goals g.context (places_of g.context) (paired (premises_from 0 type) hs) n type
+  onward_may_be_opened shaped_sig c type is atoms hs all =
+      let ks = premises_from 0 type in
+      opened_with_all sig goals shaped n below g is_one (paired ks hs) type (constant_is_shaped sig shaped_sig c type is goals g.context) (paired_once ks hs (premises_rise 0 type)) (paired_fit type ks hs atoms all)
+
   pub onward_is_usable : ShapedSignature sig → (rule c : ℕ) (type : LfType) → type_at (constant_types sig) c ≡ Some type → All (HasAtomAt type) (premises_from 0 type) → (kept : List ℕ) (hs : List LfHypothesis) →
       All IsAtom hs → MayBeUsed sig goals n g (onward rule c type g n kept hs)
   onward_is_usable shaped_sig rule c type is atoms kept hs all =
       let candidate = onward rule c type g n kept hs in
       let ks = premises_from 0 type in
       let fixed = paired ks hs in
-      let may = opened_with_all sig goals shaped n below g is_one fixed type (constant_is_shaped sig shaped_sig c type is goals g.context) (paired_once ks hs (premises_rise 0 type)) (paired_fit type ks hs atoms all) in
+      let may = onward_may_be_opened shaped_sig c type is atoms hs all in
       let known = known_opening sig goals shaped n below g is_one (places_of g.context) fixed type (λ m o. absurd (constant_mentions_none sig shaped_sig c type is m o)) may candidate.opened refl in
       usable sig goals shaped n below g is_one candidate (places_of g.context) fixed type may refl known (marks_count fixed 0 type) (constant_has_shape sig shaped_sig c type is goals g.context) no_goal
       (premises_are_good type candidate.opened known ks hs atoms all)
