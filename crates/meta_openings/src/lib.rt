@@ -13,3 +13,4 @@ mod renaming;
 mod variables;
 
 pub use open::{Opened, open_args};
+pub use variables::variable_at;

@@ -15,7 +15,7 @@ use basics::NoMemory;
 use lf_terms::eta::{eta, raised};
 use lf_terms::{Head, Shape, Shapes, Term, Terms};
 
-// The variable at a place of a context with so many entries.
+/// The variable at a place of a context with so many entries. A number past its type is out of memory.
 pub fn variable_at(count: usize, place: usize) -> Result<Head, NoMemory>
     ensures { IfOk result (λ head. head_of head ≡ context_variable count place) }
 {
