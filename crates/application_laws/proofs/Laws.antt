@@ -45,7 +45,7 @@ module _ (sig : LfSignature) (shaped_sig : ShapedSignature sig) (goals : List Lf
   hypotheses_known : All IsHypothesis (hypotheses_of g.context)
   hypotheses_known = all_hypotheses (kind_shapes_in sig) (scope_in sig goals []) 0 g.context is_one.0
 
-  pub atoms_known : All (IsAtom sig goals shaped n below g is_one) (are_atomic (hypotheses_of g.context))
+  atoms_known : All (IsAtom sig goals shaped n below g is_one) (are_atomic (hypotheses_of g.context))
   atoms_known = All-are_atomic IsHypothesis (hypotheses_of g.context) hypotheses_known
 
   one : (c : LfCandidate) → May c → All May (c ∷ [])
@@ -108,7 +108,7 @@ module _ (sig : LfSignature) (shaped_sig : ShapedSignature sig) (goals : List Lf
       step true drop = split_dropping c type is major h fits drop
       step false drop = opened_with_all sig goals shaped n below g is_one ((major, h.place) ∷ []) type (constant_is_shaped sig shaped_sig c type is goals g.context) (once major h.place) fits
 
-  split_usable : (rule c major : ℕ) (type : LfType) → type_at (constant_types sig) c ≡ Some type → HasAtomAt type major → (h : LfHypothesis) → IsAtom sig goals shaped n below g is_one h →
+  pub split_usable : (rule c major : ℕ) (type : LfType) → type_at (constant_types sig) c ≡ Some type → HasAtomAt type major → (h : LfHypothesis) → IsAtom sig goals shaped n below g is_one h →
       All May (split rule c type major g n h)
   split_usable rule c major type is has h atom =
       let fixed = (major, h.place) ∷ [] in

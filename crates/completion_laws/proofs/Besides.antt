@@ -65,7 +65,7 @@ module _ (sig : LfSignature) (goals : List LfGoal) (n : ℕ) (g : LfGoal) (c : L
   abbrev With_more : List LfGoal
   With_more = Everything ++ done.more
 
-  abbrev Between : Scope
+  abbrev pub Between : Scope
   Between = scope_in sig With_more []
 
   abbrev Unifier : Assignment
@@ -74,14 +74,14 @@ module _ (sig : LfSignature) (goals : List LfGoal) (n : ℕ) (g : LfGoal) (c : L
   abbrev Own : LfAssigned
   Own = entry_of g done.becomes_term
 
-  abbrev Own_alone : Assignment
+  abbrev pub Own_alone : Assignment
   Own_alone = assignment_of (Own ∷ [])
 
   -- the entries with the goal's entry put into them, and all with this one
   abbrev Others : List LfAssigned
   Others = map (put_into Everything Own) entries
 
-  abbrev Besides : Assignment
+  abbrev pub Besides : Assignment
   Besides = assignment_of Others
 
   abbrev Whole : Assignment
@@ -102,7 +102,7 @@ module _ (sig : LfSignature) (goals : List LfGoal) (n : ℕ) (g : LfGoal) (c : L
   grown : (m : ℕ) (s : SimpleType) → Before (metavariable m) ≡ Some s → Between (metavariable m) ≡ Some s
   grown m s e = more_goals (shapes_of_types (constant_types sig)) Everything done.more [] (metavariable m) s e
 
-  goal_known : Before (metavariable g.id) ≡ Some Goal_shape
+  pub goal_known : Before (metavariable g.id) ≡ Some Goal_shape
   goal_known = shape_found sig Everything g.id ∙ ap (option_map shape_of) (keeps_type goals c.opened.fresh g.id (goal_type g) (type_of_goal goals x.of_goals.0 g x.one_of))
 
   body_shaped : Shaped Between Body Goal_shape
@@ -124,10 +124,10 @@ module _ (sig : LfSignature) (goals : List LfGoal) (n : ℕ) (g : LfGoal) (c : L
   own_found : Own_alone g.id ≡ Some Body
   own_found = ap (λ b. if b then Some Body else None) (eq-eqb g.id g.id refl)
 
-  own_closed : AssignsClosedTerms Own_alone
+  pub own_closed : AssignsClosedTerms Own_alone
   own_closed = closed_among sig With_more Own_alone (λ m u found. (Goal_shape, subst (λ v. Shaped Between v Goal_shape) (own_alone m u found).1 body_shaped))
 
-  own_goes : Goes (goals_depth Everything) Before Between (instantiating Own_alone)
+  pub own_goes : Goes (goals_depth Everything) Before Between (instantiating Own_alone)
   own_goes = goes_from sig Everything With_more Own_alone put (λ m s known none. grown m s known)
     where
       put : (m : ℕ) (s : SimpleType) (u : LfTerm) → Before (metavariable m) ≡ Some s → Own_alone m ≡ Some u → Shaped Between u s
@@ -136,7 +136,7 @@ module _ (sig : LfSignature) (goals : List LfGoal) (n : ℕ) (g : LfGoal) (c : L
           subst₂ (Shaped Between) r.1 (Some_inj goal_known (ap (λ k. Before (metavariable k)) r.0 ∙ known)) body_shaped
 
   -- What is put is shaped, and mentions nothing that has an entry, nor the goal.
-  abbrev IsGoodEntry : ℕ → LfTerm → Type 0
+  abbrev pub IsGoodEntry : ℕ → LfTerm → Type 0
   IsGoodEntry k u =
       ((s : SimpleType) × (Before (metavariable k) ≡ Some s) × Shaped Between u s)
       × ((m : ℕ) → OccursIn (metavariable m) u → (Unifier m ≡ None) × (g.id ≢ m))
@@ -164,7 +164,7 @@ module _ (sig : LfSignature) (goals : List LfGoal) (n : ℕ) (g : LfGoal) (c : L
       All-map (λ e. IsGoodEntry e.assigned_goal (term_put e)) (put_into Everything Own) entries
       (All-weaker (λ e. IsEntry sig goals n g c entries x e.assigned_goal (term_put e)) (λ e. IsGoodEntry e.assigned_goal (term_put (put_into Everything Own e))) entry_put entries (all_entries sig goals n g c entries x))
 
-  put_besides : (k : ℕ) (u : LfTerm) → Besides k ≡ Some u → IsGoodEntry k u
+  pub put_besides : (k : ℕ) (u : LfTerm) → Besides k ≡ Some u → IsGoodEntry k u
   put_besides = found_entry IsGoodEntry Others all_put
 
   put_whole : (k : ℕ) (u : LfTerm) → Whole k ≡ Some u → IsGoodEntry k u
@@ -189,7 +189,7 @@ module _ (sig : LfSignature) (goals : List LfGoal) (n : ℕ) (g : LfGoal) (c : L
   abbrev Beside : LfGoal
   Beside = goal_besides goals g c entries done
 
-  abbrev Rest : List LfGoal
+  abbrev pub Rest : List LfGoal
   Rest = Left ++ Beside ∷ []
 
   abbrev After : Scope
@@ -239,7 +239,7 @@ module _ (sig : LfSignature) (goals : List LfGoal) (n : ℕ) (g : LfGoal) (c : L
   goes : Goes (goals_depth Everything) Before After (instantiating Whole)
   goes = goes_from sig Everything Rest Whole (λ m s u known found. put_after m u s known (put_whole m u found)) (λ m s known none. known_left m s none (grown m s known))
 
-  goes_besides : Goes (goals_depth Everything) Before After (instantiating Besides)
+  pub goes_besides : Goes (goals_depth Everything) Before After (instantiating Besides)
   goes_besides =
       goes_from sig Everything Rest Besides (λ m s u known found. put_after m u s known (put_besides m u found))
       (λ m s known none. known_rest m s (put_was_none Everything Own entries m none) (grown m s known))
