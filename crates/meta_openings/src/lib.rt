@@ -4,13 +4,13 @@
 #![tactic(auto)]
 
 mod arguments;
-mod entries;
-mod fresh;
-mod lists;
+pub mod entries;
+pub mod fresh;
+pub mod lists;
 pub mod open;
-mod places;
+pub mod places;
 mod renaming;
-mod variables;
+pub mod variables;
 
 pub use open::{Opened, open_args};
 pub use variables::variable_at;
