@@ -68,7 +68,7 @@ module _ (kinds : ℕ → Option SimpleType) (G : Scope) (g : LfGoal) (kept : Li
   Everywhere = AllShapes kinds G g.context kept Entries may.entries_kept
 
   -- an atom as it is seen among the kept entries
-  returned_shaped : (a : LfAtom) → MentionsNone (is_dropped kept (length g.context)) (atomic a) → ShapedType kinds Everywhere (atomic a) → ShapedType kinds Here (atomic (returned kept g.context a))
+  pub returned_shaped : (a : LfAtom) → MentionsNone (is_dropped kept (length g.context)) (atomic a) → ShapedType kinds Everywhere (atomic a) → ShapedType kinds Here (atomic (returned kept g.context a))
   returned_shaped a clean shaped =
       ShapedType-unrenamed (atomic (returned kept g.context a)) (keeping kept (length g.context)) Here Everywhere
       (λ h s e. sym (same_kept_shapes kinds G g.context kept Entries may.entries_kept h) ∙ e)
