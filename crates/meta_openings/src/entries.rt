@@ -13,7 +13,7 @@ use crate::renaming::renamed_type;
 use basics::NoMemory;
 use lf_terms::{Ctx, Ty, Tys};
 
-// The kept entries by themselves. Where all are kept they are shared.
+/// The kept entries by themselves. Where all are kept they are shared.
 pub fn kept_entries(places: &Places<'_>, ctx: &Ctx) -> Result<Ctx, NoMemory>
     requires tables { AreTables places.now (length ctx.now) }
     requires kept { (entries : Context) × AreKept places.now.kept.now 0 ctx.now entries }
@@ -48,7 +48,7 @@ fn add_entry(
     Ok(())
 }
 
-// A type in the context, as it is seen among the kept entries. Where all are kept it is the type.
+/// A type in the context, as it is seen among the kept entries. Where all are kept it is the type.
 pub fn among_kept(places: &Places<'_>, count: usize, ty: Ty) -> Result<Ty, NoMemory>
     requires { AreTables places.now count }
     ensures { IfOk result (λ r. (inside : LfType) → rename_type (keeping places.now.kept.now count) inside ≡ type_of ty → type_of r ≡ inside) }

@@ -17,8 +17,8 @@ use basics::NoMemory;
 use lf_terms::eta::{abstracted, own_variables};
 use lf_terms::{Atom, Ctx, Goal, Head, Shape, Shapes, Term, Terms, Ty};
 
-// What arguments are opened in: the places of a context with entries of these shapes, its kept entries, their
-// variables as they are seen from the whole context, and the first fresh number.
+/// What arguments are opened in: the places of a context with entries of these shapes, its kept entries, their
+/// variables as they are seen from the whole context, and the first fresh number.
 #[derive(Clone, Copy)]
 pub struct Setting<'a> {
     pub places: &'a Places<'a>,
@@ -28,7 +28,7 @@ pub struct Setting<'a> {
     pub first: u32,
 }
 
-// The fresh number after so many.
+/// The fresh number after so many.
 pub fn number_after(first: u32, count: usize) -> Result<u32, NoMemory>
     ensures { IfOk result (λ number. number ≡ first + count) }
 {
@@ -38,7 +38,7 @@ pub fn number_after(first: u32, count: usize) -> Result<u32, NoMemory>
     Ok(first + count as u32)
 }
 
-// The goal for an argument that has this type among the kept entries.
+/// The goal for an argument that has this type among the kept entries.
 pub fn goal_for(setting: &Setting<'_>, number: u32, inside: Ty) -> Result<Goal, NoMemory>
     ensures { IfOk result (λ goal. goal_of goal ≡ fresh_goal number setting.now.entries.now (type_of inside)) }
 {
@@ -54,7 +54,7 @@ pub fn goal_for(setting: &Setting<'_>, number: u32, inside: Ty) -> Result<Goal, 
     })
 }
 
-// The term for it: the goal's metavariable on the kept entries, made eta-long.
+/// The term for it: the goal's metavariable on the kept entries, made eta-long.
 pub fn term_for(setting: &Setting<'_>, number: u32, shape: &Shape) -> Result<Term, NoMemory>
     requires { IsSetting setting.now }
     ensures { IfOk result (λ term. term_of term

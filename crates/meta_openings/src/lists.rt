@@ -10,7 +10,7 @@ use lf_terms::term::copy;
 use lf_terms::{Ctx, Term, Terms, Ty, Tys};
 use std::alloc::Global;
 
-// A context with more entries. Where there are none it is shared.
+/// A context with more entries. Where there are none it is shared.
 pub fn followed(alloc: Global, ctx: &Ctx, more: &Tys) -> Result<Ctx, NoMemory>
     ensures { IfOk result (λ types. types ≡ ctx.now ++ more.now) }
 {
@@ -32,7 +32,7 @@ fn add_types(types: &mut Vec<Ty>, more: &[Ty]) -> Result<(), NoMemory>
     Ok(())
 }
 
-// A list of terms and then another.
+/// A list of terms and then another.
 pub fn joined(alloc: Global, first: &Terms, second: &Terms) -> Result<Terms, NoMemory>
     ensures { IfOk result (λ terms. terms ≡ joined first.now second.now) }
 {

@@ -6,7 +6,7 @@ ghost use Rattle.meta_openings.specs.Tables.{AreMarks, AreCounts, AreFixed, AreT
 use basics::{Ids, NoMemory, Pairs};
 use std::alloc::Global;
 
-// The places of a context: whether each is kept, and how many before it are, and before the end.
+/// The places of a context: whether each is kept, and how many before it are, and before the end.
 #[derive(Drop)]
 pub struct Places<'a> {
     pub alloc: Global,
@@ -15,7 +15,7 @@ pub struct Places<'a> {
     pub before: Vec<usize>,
 }
 
-// The tables of a context with so many entries.
+/// The tables of a context with so many entries.
 pub fn places_of<'a>(alloc: Global, kept: &'a Ids, count: usize) -> Result<Places<'a>, NoMemory>
     requires { All (λ place. place < count) kept.now }
     ensures kept { IfOk result (λ places. places.kept.now ≡ kept.now) }
@@ -72,7 +72,7 @@ fn more(count: usize, mark: bool) -> Result<usize, NoMemory>
     }
 }
 
-// For each of so many arguments, the place that it is fixed to.
+/// For each of so many arguments, the place that it is fixed to.
 pub fn fixed_places(
     alloc: Global,
     fixed: &Pairs,

@@ -26,8 +26,8 @@ pub fn variable_at(count: usize, place: usize) -> Result<Head, NoMemory>
     Ok(Head::Bound(later as u32))
 }
 
-// The variables of the kept entries of a context with entries of these shapes, as they are seen from under
-// so many more binders.
+/// The variables of the kept entries of a context with entries of these shapes, as they are seen from under
+/// so many more binders.
 pub fn kept_variables(places: &Places<'_>, shapes: &Shapes, raise: usize) -> Result<Terms, NoMemory>
     requires { AreTables places.now (length shapes.now) }
     ensures { IfOk result (λ terms. (ctx entries : Context) → shapes.now ≡ shapes_of_types ctx → AreKept places.now.kept.now 0 ctx entries →
