@@ -1,0 +1,12 @@
+pub mod Seen
+pub mod Conditions
+pub mod Attempts
+pub mod Solutions
+pub mod Completed
+pub mod Whole
+pub mod Remaining
+pub mod Checked
+pub mod Answers
+pub mod Added
+pub mod ArgumentTypes
+pub mod RuleUses
