@@ -1,0 +1,5 @@
+mod Scopes
+mod ShapedPairs
+mod PutParts
+mod Barred
+mod OpenedOnce
