@@ -1,0 +1,180 @@
+-- Nothing comes of a tuple whose first premises are refused.
+use Rattle.std.proofs.Common.{◌≡◌, ℕ, zero, suc, ◌+◌, ◌<◌, ◌≤◌, true, None, List, [], ◌∷◌, ◌++◌, All, length, map, refl, sym, ap, ap₂, ◌∙◌, subst, subst₂, length-append, get_or, replicate, arith}
+use Rattle.std.specs.Prelude.{nat_eq, ◌||◌, not}
+use Rattle.std.specs.Cmp.{nat_eq_equiv}
+use Rattle.std.specs.List.{list_any}
+use Rattle.std.proofs.lemmas.List.{append-nil, map-append, length-replicate, replicate-append-replicate}
+use Rattle.std.proofs.lemmas.List.Elements.{All-nil, All-cons, All-head, All-tail, All-append, All-weaker, All-map}
+use Rattle.lf_definitions.specs.ShapedGoals.{scope_in, kind_shapes_in}
+use Rattle.lf_definitions.specs.Typing.{LfGoal}
+use Rattle.lf_definitions.specs.GoalLists.{all_goals}
+use Rattle.lf_definitions.specs.Syntax.{LfAtom}
+use Rattle.lf_definitions.specs.Instantiation.{LfAssigned}
+use Rattle.lf_terms.specs.Targets.{goal_of}
+use Rattle.lf_terms.specs.Types.{type_of}
+use Rattle.unification.specs.Patterns.{has_number}
+use Rattle.unification.specs.Equations.{numbered_from, Reason, clash, occurs, escapes, prune, not_pattern, Ending, solved, refused}
+use Rattle.unification.specs.Transitions.{Unifies}
+use Rattle.unification.specs.Solutions.{ShapedEquation, ShapedEquations}
+use Rattle.unifiers.proofs.Steps.{All-append_left}
+use Rattle.lf_functions.specs.Endings.{unifier_of}
+use Rattle.lf_functions.proofs.EndingLaws.{unifiers_are_the_one_end, unifiers_look_at_what_occurs}
+use Rattle.meta_goals.specs.GoalsOf.{goals_of}
+use Rattle.meta_openings.specs.Results.{opened_type_of}
+use Rattle.meta_unify.specs.Walks.{IsShapedProblem}
+use Rattle.meta_unify.specs.Endings.{ending_of}
+use Rattle.meta_unify.specs.declared.unified.Unified.{Unified}
+use Rattle.meta_unify.specs.declared.unified.Unified.TheVariants.{Solved, Clash, Occurs, Escapes, Prune, NotPattern}
+use Rattle.applications.specs.Methods.{LfCandidate}
+use Rattle.applications.specs.Candidates.{LfHypothesis, places_of, premises_from, premise_equations, tuples}
+use Rattle.applications.specs.Applications.{freezing, application_of, completed, with_some}
+use Rattle.application_laws.proofs.Lists.{All-each}
+use Rattle.build_shared.specs.declared.app.App.{App}
+use Rattle.build_shared.specs.declared.hypotheses.Hypothesis.{Hypothesis}
+use Rattle.build_shared.specs.declared.rule_use.RuleUse.{RuleUse}
+use Rattle.build_shared.specs.RuleUses.{what_counts, AddsWhatCounts}
+use Rattle.build_shared.specs.Seen.{seen_hypothesis, seen_application}
+use Rattle.build_forward.specs.declared.onward.Onward.{Onward}
+use Rattle.build_forward.specs.declared.refusal.Sieve.{Sieve}
+use Rattle.build_forward.specs.Onwards.{IsOnward, IsAtomIn, opening_for, tuple_offer, tuple_offers}
+use Rattle.build_forward.specs.Sieves.{IsSieve, NothingComes, is_solved}
+use Rattle.build_forward.proofs.PremisePlaces.{read_holds}
+use Rattle.build_forward.proofs.OpenedTuples.{is_usable}
+use Rattle.build_forward.proofs.SameArguments.{openings_agree, same_equations, equations-append}
+use Rattle.build_forward.proofs.RefusedEquations.{never_solved, numbered-append}
+
+is_one_of_all : (ns : List ℕ) (n : ℕ) → has_number ns n ≡ list_any (nat_eq n) ns
+is_one_of_all [] n = refl
+is_one_of_all (m ∷ ns) n = ap₂ (λ a b. a || b) (nat_eq_equiv.symm m n) (is_one_of_all ns n)
+
+refused_by : (unified : Unified) → not (is_solved unified) ≡ true → (reason : Reason) × (ending_of unified ≡ refused reason)
+refused_by (Solved assign) unsolved = absurd cc
+refused_by (Clash path) unsolved = (clash path, refl)
+refused_by (Occurs m) unsolved = (occurs m, refl)
+refused_by (Escapes path) unsolved = (escapes path, refl)
+refused_by (Prune path) unsolved = (prune path, refl)
+refused_by (NotPattern path) unsolved = (not_pattern path, refl)
+
+module _ (s : Sieve) (is : IsSieve s) (chosen : List LfHypothesis) (chosen_are : All (IsAtomIn s.onward.now.usage.now) chosen) where
+  abbrev o : Onward
+  o = s.onward.now
+
+  abbrev u : RuleUse
+  u = s.onward.now.usage.now
+
+  abbrev goals : List LfGoal
+  goals = all_goals (goals_of s.onward.now.usage.now.goals.now)
+
+  abbrev g : LfGoal
+  g = goal_of s.onward.now.usage.now.goal.now
+
+  -- the equations that are tried
+  abbrev tried : List (LfAtom × LfAtom)
+  tried = premise_equations (type_of s.onward.now.ty.now) (opened_type_of s.opened.now) (premises_from 0 (type_of s.onward.now.ty.now)) chosen
+
+  -- They are the first of those of each tuple that begins so.
+  first_equations : (rest : List LfHypothesis) → length (premises_from 0 (type_of s.onward.now.ty.now)) ≤ length (chosen ++ rest) →
+      (others : List (LfAtom × LfAtom)) × ((tuple_offer o (chosen ++ rest)).equations ≡ tried ++ others)
+  first_equations rest enough =
+      let type = type_of s.onward.now.ty.now in
+      let ks = premises_from 0 type in
+      let parts = equations-append type (opened_type_of s.opened.now) ks chosen rest in
+      let agree = openings_agree g.context (places_of g.context) u.first type (chosen ++ rest) is.tuple enough is.enough in (
+        parts.0,
+        same_equations type (opening_for o (chosen ++ rest)) (opening_for o is.tuple) ks (chosen ++ rest) agree is.onward.take_atoms
+            ∙ ap (λ x. premise_equations type x ks (chosen ++ rest)) (sym is.opened_is) ∙ parts.1,
+      )
+
+  pub is_shaped_problem : IsShapedProblem tried
+  is_shaped_problem =
+      let all = All-append (IsAtomIn u) chosen is.tuple chosen_are is.atoms in
+      let enough : length (premises_from 0 (type_of s.onward.now.ty.now)) ≤ length (chosen ++ is.tuple) = omega (arith, is.enough, length-append chosen is.tuple) in
+      let c = tuple_offer o (chosen ++ is.tuple) in
+      let kinds = kind_shapes_in u.sig.now in
+      let Γ = scope_in u.sig.now (goals ++ c.opened.fresh) g.context in
+      let first = first_equations is.tuple enough in
+      let numbers = numbered-append 0 tried first.0 in
+      let shaped : ShapedEquations kinds Γ (numbered_from 0 c.equations) = (is_usable o is.onward (chosen ++ is.tuple) all).equations_are_shaped in
+      let shaped_first : ShapedEquations kinds Γ (numbered_from 0 tried ++ numbers.0) = subst (ShapedEquations kinds Γ) (ap (numbered_from 0) first.1 ∙ numbers.1) shaped in
+      (kinds, Γ, All-append_left (ShapedEquation kinds Γ) (numbered_from 0 tried) numbers.0 shaped_first)
+
+  solved_never : (reason : Reason) → Unifies (has_number s.frozen.now) (numbered_from 0 tried) (refused reason) → (rest : List LfHypothesis) → All (IsAtomIn u) rest →
+      length (premises_from 0 (type_of s.onward.now.ty.now)) ≤ length (chosen ++ rest) → (entries : List LfAssigned) →
+      unifier_of u.sig.now (goals ++ (tuple_offer o (chosen ++ rest)).opened.fresh) g.context (freezing (tuple_offer o (chosen ++ rest)).outcome goals g) (tuple_offer o (chosen ++ rest)).equations ≡ solved entries → ⊥
+  solved_never reason refuses rest rest_are enough entries ends =
+      let c = tuple_offer o (chosen ++ rest) in
+      let among = goals ++ c.opened.fresh in
+      let shaped = (is_usable o is.onward (chosen ++ rest) (All-append (IsAtomIn u) chosen rest chosen_are rest_are)).equations_are_shaped in
+      let frozen = has_number s.frozen.now in
+      let first = first_equations rest enough in
+      let also : unifier_of u.sig.now among g.context frozen c.equations ≡ solved entries =
+      unifiers_look_at_what_occurs u.sig.now u.sig.now among among g.context g.context (freezing c.outcome goals g) frozen c.equations shaped shaped
+      (λ m mentioned. is_one_of_all s.frozen.now m ∙ ap (list_any (nat_eq m)) is.frozen_are) ∙ ends in
+      let solves = (unifiers_are_the_one_end u.sig.now among g.context frozen c.equations shaped (solved entries)).1 (sym also) in
+      never_solved frozen tried first.0 reason entries refuses (subst (λ l. Unifies frozen (numbered_from 0 l) (solved entries)) first.1 solves)
+
+  pub nothing_comes : (reason : Reason) → Unifies (has_number s.frozen.now) (numbered_from 0 tried) (refused reason) → NothingComes o chosen
+  nothing_comes reason refuses rest rest_are enough =
+      none_completed (tuple_offer o (chosen ++ rest)) (unifier_of u.sig.now (goals ++ (tuple_offer o (chosen ++ rest)).opened.fresh) g.context (freezing (tuple_offer o (chosen ++ rest)).outcome goals g) (tuple_offer o (chosen ++ rest)).equations)
+      (solved_never reason refuses rest rest_are enough)
+    where
+      none_completed : (c : LfCandidate) (e : Ending) → ((entries : List LfAssigned) → e ≡ solved entries → ⊥) → completed u.sig.now u.first goals g c e ≡ None
+      none_completed c (refused why) never = refl
+      none_completed c (solved entries) never = absurd (never entries refl)
+
+  -- So it is where the unifier's answer is no solution.
+  pub refusal_means : (equations : List (LfAtom × LfAtom)) (unified : Unified) → equations ≡ tried → Unifies (has_number s.frozen.now) (numbered_from 0 equations) (ending_of unified) → not (is_solved unified) ≡ true →
+      NothingComes o chosen
+  refusal_means equations unified are ends unsolved =
+      let why = refused_by unified unsolved in
+      nothing_comes why.0 (subst₂ (λ l e. Unifies (has_number s.frozen.now) (numbered_from 0 l) e) are why.1 ends)
+
+-- The tuples of some length.
+good_tuples : (P : LfHypothesis → Type 0) (count : ℕ) (hs : List LfHypothesis) → All P hs → All (λ t. All P t × (length t ≡ count)) (tuples count hs)
+good_tuples P zero hs all = All-cons (λ t. All P t × (length t ≡ 0)) [] [] (All-nil P, refl) (All-nil (λ t. All P t × (length t ≡ 0)))
+good_tuples P (suc count) hs all =
+    let IsGood : ℕ → List LfHypothesis → Type 0 = λ n t. All P t × (length t ≡ n) in
+    All-each P (IsGood (suc count)) (λ h. map (λ rest. h ∷ rest) (tuples count hs))
+    (λ h p. All-map (IsGood (suc count)) (λ rest. h ∷ rest) (tuples count hs)
+    (All-weaker (IsGood count) (λ rest. IsGood (suc count) (h ∷ rest)) (λ rest both. (All-cons P h rest p both.0, ap suc both.1)) (tuples count hs) (good_tuples P count hs all)))
+    hs all
+
+none_counts : (u : RuleUse) (f : List LfHypothesis → LfCandidate) (found : List (List LfHypothesis)) →
+    All (λ t. application_of u.sig.now u.first (all_goals (goals_of u.goals.now)) (goal_of u.goal.now) (f t) ≡ None) found → what_counts u (map f found) ≡ []
+none_counts u f [] all = refl
+none_counts u f (t ∷ found) all =
+    let IsNone : List LfHypothesis → Type 0 = λ x. application_of u.sig.now u.first (all_goals (goals_of u.goals.now)) (goal_of u.goal.now) (f x) ≡ None in
+    ap (λ a. with_some a (what_counts u (map f found))) (All-head IsNone t found all) ∙ none_counts u f found (All-tail IsNone t found all)
+
+-- Where nothing comes of the tuples that begin so, they may be passed over.
+pub passed_over : (o : Onward) → IsOnward o → (chosen : List LfHypothesis) (left : ℕ) → NothingComes o chosen → length chosen + left ≡ length o.premises.now → (found : List App) →
+    AddsWhatCounts o.usage.now (tuple_offers o left chosen) found found
+passed_over o is chosen left nothing count found =
+    let hs = map seen_hypothesis o.hyps.now in
+    let IsNone : List LfHypothesis → Type 0 =
+    λ t. application_of o.usage.now.sig.now o.usage.now.first (all_goals (goals_of o.usage.now.goals.now)) (goal_of o.usage.now.goal.now) (tuple_offer o (chosen ++ t)) ≡ None in
+    let none : All IsNone (tuples left hs) =
+    All-weaker (λ t. All (IsAtomIn o.usage.now) t × (length t ≡ left)) IsNone
+    (λ t good. nothing t good.0 (let many = good.1 in omega (arith, count, many, ap length is.premises_are, length-append chosen t))) (tuples left hs) (good_tuples (IsAtomIn o.usage.now) left hs is.atoms) in
+    sym (append-nil (map seen_application found)) ∙ ap (λ l. map seen_application found ++ l) (sym (none_counts o.usage.now (λ t. tuple_offer o (chosen ++ t)) (tuples left hs) none))
+
+-- A hypothesis is repeated.
+pub repeated_more : (old new : List Hypothesis) (h copy : Hypothesis) (i : ℕ) → map seen_hypothesis old ≡ replicate i (seen_hypothesis h) → seen_hypothesis copy ≡ seen_hypothesis h → new ≡ old ++ copy ∷ [] →
+    map seen_hypothesis new ≡ replicate (i + 1) (seen_hypothesis h)
+repeated_more old new h copy i before same pushed =
+    ap (map seen_hypothesis) pushed ∙ map-append seen_hypothesis old (copy ∷ []) ∙ ap₂ (λ l x. l ++ x ∷ []) before same ∙ replicate-append-replicate i 1 (seen_hypothesis h)
+
+all_repeated : (P : LfHypothesis → Type 0) (n : ℕ) (h : LfHypothesis) → P h → All P (replicate n h)
+all_repeated P zero h p = All-nil P
+all_repeated P (suc n) h p = All-cons P h (replicate n h) p (all_repeated P n h p)
+
+-- What begins the search.
+module _ (o : Onward) (is : IsOnward o) (h : Hypothesis) (some : 0 < length o.hyps.now) (h_is : h ≡ get_or o.hyps.now 0 h) (tuple : List Hypothesis)
+    (tuple_is : map seen_hypothesis tuple ≡ replicate (length o.premises.now) (seen_hypothesis h)) where
+  pub tuple_atoms : All (IsAtomIn o.usage.now) (map seen_hypothesis tuple)
+  tuple_atoms =
+      subst (All (IsAtomIn o.usage.now)) (sym tuple_is)
+      (all_repeated (IsAtomIn o.usage.now) (length o.premises.now) (seen_hypothesis h) (read_holds (IsAtomIn o.usage.now) o.hyps.now 0 h is.atoms some h_is))
+
+  pub tuple_length : length (map seen_hypothesis tuple) ≡ length o.premises.now
+  tuple_length = ap length tuple_is ∙ length-replicate (length o.premises.now) (seen_hypothesis h)

@@ -1,0 +1,10 @@
+use Rattle.std.proofs.Common.{map}
+use Rattle.build_shared.specs.Seen.{seen_hypothesis}
+use Rattle.build_forward.proofs.OfferedTuples.{IsLeftFrom}
+use Rattle.build_forward.proofs.tuples.+go_on.Given as goal
+
+abbrev pub decreases-go_on : goal.decreases-go_on
+decreases-go_on l = l.left
+
+abbrev pub invariant-loop-i : goal.invariant-loop-i
+invariant-loop-i l = IsLeftFrom l.sieve.onward.now l.left (map seen_hypothesis l.chosen) l.fn.found.items l.i l.found.items

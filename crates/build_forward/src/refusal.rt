@@ -1,0 +1,67 @@
+//! Tuples of which nothing comes.
+
+ghost use Rattle.std.specs.Prelude.{◌≡◌, ◌≤◌, ◌++◌, true, map, length, All, IfOk, OnOk};
+ghost use Rattle.lf_definitions.specs.GoalLists.{all_goals, ids};
+ghost use Rattle.meta_goals.specs.GoalsOf.{goals_of};
+ghost use Rattle.build_shared.specs.Seen.{seen_hypothesis};
+ghost use Rattle.build_forward.specs.Onwards.{IsAtomIn};
+ghost use Rattle.build_forward.specs.Sieves.{IsSieve, NothingComes, is_solved};
+
+use crate::equations::equations_for;
+use crate::onward::Onward;
+use basics::{Ids, NoMemory};
+use build_shared::Hypothesis;
+use lf_terms::GoalList;
+use meta_goals::Goals;
+use meta_openings::Opened;
+use meta_unify::{Unified, unify};
+use std::alloc::Global;
+
+// What goes onward, what the constant's type is opened to for some tuple, and the numbers of all goals. Nothing mentions a premise, so the
+// premises are the same for all tuples.
+#[derive(Clone, Copy)]
+pub struct Sieve<'a> {
+    pub onward: &'a Onward<'a>,
+    pub opened: &'a Opened,
+    pub frozen: &'a Ids,
+}
+
+// Whether the first premises are refused for these hypotheses. Then so are all premises, whatever hypotheses come after these.
+pub fn is_refused(sieve: &Sieve<'_>, chosen: &[Hypothesis]) -> Result<bool, NoMemory>
+    requires sieve { IsSieve sieve.now }
+    requires chosen { All (IsAtomIn sieve.now.onward.now.usage.now) (map seen_hypothesis chosen.now) }
+    requires few { length chosen.now ≤ length sieve.now.onward.now.premises.now }
+    ensures { IfOk result (λ refused. refused ≡ true → NothingComes sieve.now.onward.now (map seen_hypothesis chosen.now)) }
+{
+    let equations = equations_for(sieve.onward, sieve.opened, chosen)?;
+    let unified = unify(sieve.onward.usage.alloc, sieve.frozen, &equations)?;
+    let solved = is_solved(&unified);
+    Ok(!solved)
+}
+
+fn is_solved(unified: &Unified) -> bool
+    ensures { result ≡ is_solved unified.now }
+{
+    matches!(unified, Unified::Solved(_))
+}
+
+// The numbers of all goals of a list.
+pub fn all_numbers(alloc: Global, goals: &Goals) -> Result<Ids, NoMemory>
+    ensures { IfOk result (λ numbers. numbers ≡ ids (all_goals (goals_of goals.now))) }
+{
+    let mut numbers = Ids::new(alloc);
+    add_numbers(&goals.proofs, &mut numbers)?;
+    add_numbers(&goals.witnesses, &mut numbers)?;
+    Ok(numbers)
+}
+
+fn add_numbers(goals: &GoalList, numbers: &mut Ids) -> Result<(), NoMemory>
+    ensures { OnOk result (numbers.new ≡ numbers.old ++ ids goals.now) }
+{
+    let items = goals.as_slice();
+    for i in 0..items.len() {
+        let item = &items[i];
+        numbers.push(item.id)?;
+    }
+    Ok(())
+}
