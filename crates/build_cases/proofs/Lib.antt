@@ -1,0 +1,5 @@
+mod MajorArguments
+mod DroppedPlaces
+mod Offered
+mod EachHypothesis
+mod WholeRules
