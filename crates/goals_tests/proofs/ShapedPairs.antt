@@ -4,7 +4,7 @@ use Rattle.std.proofs.lemmas.List.Elements.{All-nil, All-cons, All-head, All-tai
 use Rattle.lf_definitions.specs.Syntax.{LfAtom, SimpleType}
 use Rattle.unification.specs.Equations.{of_atoms, numbered_from}
 use Rattle.unification.specs.Solutions.{ShapedEquation, ShapedEquations}
-use Rattle.goals_tests.specs.declared.shapes.Setting.{Setting}
+use Rattle.goals_tests.specs.declared.setting.Setting.{Setting}
 use Rattle.goals_tests.specs.Settings.{scope_of, kinds_of, ShapedPair}
 
 pub numbered_shaped : (setting : Setting) (variables : List SimpleType) (n : ℕ) (pairs : List (LfAtom × LfAtom)) → All (ShapedPair setting variables) pairs →

@@ -8,7 +8,7 @@ use Rattle.head_laws.specs.AssignmentLaws.{AssignsClosedTerms}
 use Rattle.meta_goals.specs.Bindings.{LfBinding, assigning, binding_for}
 use Rattle.meta_unify.specs.declared.unified.Unified.{Unified}
 use Rattle.meta_unify.specs.declared.unified.Unified.TheVariants.{Solved, Clash, Occurs, Escapes, Prune, NotPattern}
-use Rattle.goals_tests.specs.declared.shapes.Setting.{Setting}
+use Rattle.goals_tests.specs.declared.setting.Setting.{Setting}
 
 -- the shapes of heads, beside variables of these shapes
 abbrev pub scope_of : Setting → List SimpleType → Scope

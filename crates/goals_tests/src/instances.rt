@@ -4,8 +4,9 @@ ghost use Rattle.goals_tests.specs.Settings.{MayBePut, scope_of};
 
 use crate::problems::{Problem, goal_from};
 use crate::reading::{context_from, term_from, type_from};
+use crate::setting::Setting;
 use crate::shapes::{
-    Setting, atom_in, is_shaped, is_shaped_goal, is_shaped_type, scope_after, shaped_goals,
+    atom_in, is_shaped, is_shaped_goal, is_shaped_type, scope_after, shaped_goals,
 };
 use crate::writing::{
     append_args, append_atom, append_binders, append_goal, append_list, append_term, append_type,

@@ -14,6 +14,7 @@ mod openings;
 mod problems;
 #[cfg(test)]
 mod reading;
+mod setting;
 #[cfg(test)]
 mod shapes;
 #[cfg(test)]

@@ -4,7 +4,8 @@ ghost use Rattle.std.specs.Prelude.{All, IfOk, IfSome, OnOk};
 ghost use Rattle.goals_tests.specs.Settings.{ShapedPair, AnswerMayBePut, scope_of};
 
 use crate::reading::{context_from, term_from, type_from};
-use crate::shapes::{Setting, atom_in, setting_of};
+use crate::setting::Setting;
+use crate::shapes::{atom_in, setting_of};
 use basics::{Ids, NoMemory};
 use lf_terms::shape_of::shapes_of;
 use lf_terms::{Atom, Goal, GoalList, Shapes};

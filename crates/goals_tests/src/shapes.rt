@@ -11,19 +11,13 @@ ghost use Rattle.lf_terms.specs.Types.{type_of, atom_of};
 ghost use Rattle.goals_tests.specs.Settings.{scope_of, kinds_of};
 
 use crate::reading::type_from;
+use crate::setting::Setting;
 use basics::NoMemory;
 use lf_terms::goal::shapes_of_metas;
 use lf_terms::shape_of::shape_of;
 use lf_terms::shaped::shaped;
-use lf_terms::{Atom, Goal, GoalList, Head, MetaShapes, Shape, Shapes, Term, Terms, Ty, Tys};
+use lf_terms::{Atom, Goal, GoalList, Head, Shape, Shapes, Term, Terms, Ty, Tys};
 use std::alloc::Global;
-
-/// The shapes of families and constants, which have one numbering, and of metavariables.
-#[derive(Drop)]
-pub(crate) struct Setting {
-    pub(crate) constants: Shapes,
-    pub(crate) metas: MetaShapes,
-}
 
 /// The type of a constant, or a family's kind over `n`. All others are as the family `n`.
 fn declared(letter: u8) -> &'static str {
