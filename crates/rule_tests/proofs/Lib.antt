@@ -1,0 +1,2 @@
+mod OpenedTypes
+mod TheoremTypes
