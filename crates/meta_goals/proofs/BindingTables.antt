@@ -1,5 +1,5 @@
 -- Bindings in a table from the numbers of goals to entries.
-use Rattle.std.proofs.Common.{◌≡◌, ℕ, Bool, true, false, cond, List, [], ◌∷◌, ◌++◌, Option, Some, None, refl, ap, ap₂, ◌∙◌, map, if◌then◌else◌, option_map}
+use Rattle.std.proofs.Common.{◌≡◌, ℕ, Bool, true, false, cond, List, [], ◌∷◌, ◌++◌, Option, Some, None, refl, sym, ap, ap₂, ◌∙◌, map, if◌then◌else◌, option_map}
 use Rattle.std.specs.Prelude.{nat_eq}
 use Rattle.std.specs.Cmp.{nat_eq_equiv}
 use Rattle.std.specs.Map.{lookup}
@@ -7,7 +7,7 @@ use Rattle.std.proofs.lemmas.List.{map-append}
 use Rattle.std.proofs.lemmas.Bool.{eqb-true}
 use Rattle.indexmap.specs.IndexMap.{insert_entry}
 use Rattle.meta_goals.specs.declared.assign.Entry.{Entry}
-use Rattle.meta_goals.specs.Bindings.{LfBinding, binding_for}
+use Rattle.meta_goals.specs.Bindings.{LfBinding, binding_for, bound_again}
 use Rattle.meta_goals.specs.Entries.{binding_of}
 
 found_step : (b : Bool) (g : ℕ) (e : ℕ × Entry) (o : Option LfBinding) (p : Option Entry) → nat_eq e.0 g ≡ b → o ≡ option_map (λ entry. binding_of (g, entry)) p →
@@ -36,3 +36,18 @@ pub bindings_more : (g : ℕ) (entry : Entry) (es new : List (ℕ × Entry)) (bi
     binding_for bindings g ≡ None → map binding_of new ≡ bindings ++ binding_of (g, entry) ∷ []
 bindings_more g entry es new bindings view is none =
     ap (map binding_of) (is ∙ added_last g entry es (ap (λ l. binding_for l g) view ∙ none)) ∙ map-append binding_of es ((g, entry) ∷ []) ∙ ap (λ l. l ++ binding_of (g, entry) ∷ []) view
+
+put_step : (b c : Bool) (e : ℕ × Entry) (es : List (ℕ × Entry)) (g : ℕ) (entry : Entry) → nat_eq g e.0 ≡ b → nat_eq e.0 g ≡ c → map binding_of (insert_entry nat_eq es g entry) ≡ bound_again (map binding_of es) (binding_of (g, entry)) →
+    map binding_of (if b then (e.0, entry) ∷ es else e ∷ insert_entry nat_eq es g entry) ≡ (if c then binding_of (g, entry) ∷ map binding_of es else binding_of e ∷ bound_again (map binding_of es) (binding_of (g, entry)))
+put_step true true e es g entry here there rest = ap (λ n. binding_of (n, entry) ∷ map binding_of es) (eqb-true e.0 g there)
+put_step true false e es g entry here there rest = absurd cc (sym here ∙ nat_eq_equiv.symm g e.0 ∙ there)
+put_step false true e es g entry here there rest = absurd cc (sym here ∙ nat_eq_equiv.symm g e.0 ∙ there)
+put_step false false e es g entry here there rest = ap (λ l. binding_of e ∷ l) rest
+
+put_in : (g : ℕ) (entry : Entry) (es : List (ℕ × Entry)) → map binding_of (insert_entry nat_eq es g entry) ≡ bound_again (map binding_of es) (binding_of (g, entry))
+put_in g entry [] = refl
+put_in g entry (e ∷ es) = put_step (nat_eq g e.0) (nat_eq e.0 g) e es g entry refl refl (put_in g entry es)
+
+pub bindings_again : (g : ℕ) (entry : Entry) (es new : List (ℕ × Entry)) (bindings : List LfBinding) → map binding_of es ≡ bindings → new ≡ insert_entry nat_eq es g entry →
+    map binding_of new ≡ bound_again bindings (binding_of (g, entry))
+bindings_again g entry es new bindings view is = ap (map binding_of) is ∙ put_in g entry es ∙ ap (λ l. bound_again l (binding_of (g, entry))) view

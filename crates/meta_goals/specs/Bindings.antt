@@ -25,6 +25,11 @@ abbrev pub binding_for : List LfBinding → ℕ → Option LfBinding
 binding_for [] g = None
 binding_for (b ∷ rest) g = if nat_eq b.number g then Some b else binding_for rest g
 
+-- Bindings with one more, in the place of the one that the number has, if it has one, and else at the end.
+abbrev pub bound_again : List LfBinding → LfBinding → List LfBinding
+bound_again [] b = b ∷ []
+bound_again (c ∷ rest) b = if nat_eq c.number b.number then b ∷ rest else c ∷ bound_again rest b
+
 -- A proof tells lists of bindings apart by their parts.
 abbrev BindingParts : Type 0
 BindingParts = ℕ × (List SimpleType × LfTerm)

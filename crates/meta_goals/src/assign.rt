@@ -1,7 +1,7 @@
 //! Assignments that are kept as entries.
 
 ghost use Rattle.std.specs.Prelude.{◌≡◌, ◌++◌, [], ◌∷◌, None, Some, OnOk, OnErr, length, option_map, option_copied, slice_get};
-ghost use Rattle.meta_goals.specs.Bindings.{binding_for};
+ghost use Rattle.meta_goals.specs.Bindings.{binding_for, bound_again};
 ghost use Rattle.meta_goals.specs.Entries.{binding_of};
 
 use basics::NoMemory;
@@ -76,6 +76,16 @@ impl Assign {
     pub fn push(&mut self, id: u32, entry: Entry) -> Result<(), NoMemory>
         requires { binding_for self.old id ≡ None }
         ensures ok { OnOk result (self.new ≡ self.old ++ binding_of (id, entry) ∷ []) }
+        ensures err { OnErr result (self.new ≡ self.old) }
+    {
+        self.entries.insert(id, entry)?;
+        Ok(())
+    }
+
+    /// Assigns a goal, in the place of what was put for it before, if there is something. A refusal leaves the assignment
+    /// as it was.
+    pub fn put(&mut self, id: u32, entry: Entry) -> Result<(), NoMemory>
+        ensures ok { OnOk result (self.new ≡ bound_again self.old (binding_of (id, entry))) }
         ensures err { OnErr result (self.new ≡ self.old) }
     {
         self.entries.insert(id, entry)?;
