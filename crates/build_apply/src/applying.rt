@@ -8,7 +8,7 @@ ghost use Rattle.meta_goals.specs.GoalsOf.{goals_of};
 ghost use Rattle.applications.specs.Candidates.{candidates};
 ghost use Rattle.rule_sets.specs.Refusals.{IsOver};
 ghost use Rattle.rule_methods.specs.RuleMethods.{method_of, HasRule, AreApplications};
-ghost use Rattle.build_shared.specs.RuleUses.{IsRuleUse, AddsWhatCounts};
+ghost use Rattle.build_shared.specs.RuleUses.{IsRuleUse, AddsWhatCounts, KeepsShapes, KnowShapes};
 ghost use Rattle.build_shared.specs.Seen.{seen_application};
 ghost use Rattle.build_apply.specs.Offers.{WorksBackwards};
 
@@ -32,9 +32,10 @@ fn add_rule(
 ) -> Result<(), NoMemory>
     requires usage { IsRuleUse usage.now }
     requires builder { WorksBackwards rule.now.builder }
-    ensures { OnOk result (AddsWhatCounts usage.now
+    ensures found { OnOk result (AddsWhatCounts usage.now
         (candidates usage.now.sig.now usage.now.rule (method_of rules.now.lists rule.now) (goal_of usage.now.goal.now) usage.now.first)
         found.old.items found.new.items) }
+    ensures shapes { OnOk result (KeepsShapes usage.now found.old.items found.new.items) }
 {
     match rule.builder {
         Builder::Apply => add_constant(usage, 0, rule.subject, found),
@@ -49,8 +50,8 @@ fn add_rule(
 }
 
 /// The applications of a rule, by its number, to the first goal of a list, in the order of its constants or hypotheses: one for each whose
-/// conclusion is unified with the target, with all that this assigns typed. Where there is no goal there is none. A number past its type is
-/// out of memory.
+/// conclusion is unified with the target, with all that this assigns typed, and each entry has the shapes of its goal's context. Where there
+/// is no goal there is none. A number past its type is out of memory.
 pub fn applications(
     alloc: Global,
     sig: &Signature,
@@ -61,7 +62,8 @@ pub fn applications(
     requires over { IsOver sig.now rules.now }
     requires rule { HasRule rules.now rule WorksBackwards }
     requires goals { ShapedGoals sig.now (all_goals (goals_of goals.now)) }
-    ensures { IfOk result (λ apps. AreApplications sig.now rules.now rule (goals_of goals.now) (map seen_application apps.items)) }
+    ensures found { IfOk result (λ apps. AreApplications sig.now rules.now rule (goals_of goals.now) (map seen_application apps.items)) }
+    ensures shapes { IfOk result (λ apps. KnowShapes (all_goals (goals_of goals.now)) apps.items) }
 {
     sig.is_formed();
     let mut found = Vec::new(alloc);

@@ -6,7 +6,7 @@ ghost use Rattle.lf_terms.specs.Terms.{head_of};
 ghost use Rattle.lf_terms.specs.Types.{type_of};
 ghost use Rattle.meta_openings.specs.Results.{opened_type_of};
 ghost use Rattle.applications.specs.Candidates.{backward, meets_target};
-ghost use Rattle.build_shared.specs.RuleUses.{IsRuleUse, AddsWhatCounts};
+ghost use Rattle.build_shared.specs.RuleUses.{IsRuleUse, AddsWhatCounts, KeepsShapes};
 ghost use Rattle.build_shared.specs.Seen.{seen_label, seen_candidate};
 ghost use Rattle.build_apply.specs.Heads.{MayClose};
 
@@ -63,8 +63,9 @@ pub fn add_backward(
 ) -> Result<(), NoMemory>
     requires usage { IsRuleUse usage.now }
     requires head { MayClose usage.now (head_of head) (type_of ty.now) }
-    ensures { OnOk result (AddsWhatCounts usage.now (backward (seen_label label) (head_of head) (type_of ty.now) (goal_of usage.now.goal.now) usage.now.first ∷ [])
+    ensures found { OnOk result (AddsWhatCounts usage.now (backward (seen_label label) (head_of head) (type_of ty.now) (goal_of usage.now.goal.now) usage.now.first ∷ [])
         found.old.items found.new.items) }
+    ensures shapes { OnOk result (KeepsShapes usage.now found.old.items found.new.items) }
 {
     let candidate = backward(usage, label, head, ty)?;
     add_if_counts(usage, candidate, found)

@@ -3,7 +3,7 @@
 ghost use Rattle.std.specs.Prelude.{OnOk};
 ghost use Rattle.lf_terms.specs.Targets.{goal_of};
 ghost use Rattle.applications.specs.Candidates.{constructed};
-ghost use Rattle.build_shared.specs.RuleUses.{IsRuleUse, AddsWhatCounts};
+ghost use Rattle.build_shared.specs.RuleUses.{IsRuleUse, AddsWhatCounts, KeepsShapes};
 ghost use Rattle.build_apply.specs.Offers.{of_constant};
 
 use crate::backward::add_backward;
@@ -20,7 +20,8 @@ pub fn add_constant(
     found: &mut Vec<App>,
 ) -> Result<(), NoMemory>
     requires { IsRuleUse usage.now }
-    ensures { OnOk result (AddsWhatCounts usage.now (of_constant usage.now choice constant) found.old.items found.new.items) }
+    ensures found { OnOk result (AddsWhatCounts usage.now (of_constant usage.now choice constant) found.old.items found.new.items) }
+    ensures shapes { OnOk result (KeepsShapes usage.now found.old.items found.new.items) }
 {
     match constant_type(usage.sig, constant) {
         None => Ok(()),
@@ -42,8 +43,9 @@ pub fn add_constants(
     found: &mut Vec<App>,
 ) -> Result<(), NoMemory>
     requires { IsRuleUse usage.now }
-    ensures { OnOk result (AddsWhatCounts usage.now (constructed usage.now.rule usage.now.sig.now 0 constants.now (goal_of usage.now.goal.now) usage.now.first)
+    ensures found { OnOk result (AddsWhatCounts usage.now (constructed usage.now.rule usage.now.sig.now 0 constants.now (goal_of usage.now.goal.now) usage.now.first)
         found.old.items found.new.items) }
+    ensures shapes { OnOk result (KeepsShapes usage.now found.old.items found.new.items) }
 {
     let items = constants.as_slice();
     let count = items.len();

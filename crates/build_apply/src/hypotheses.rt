@@ -5,7 +5,7 @@ ghost use Rattle.lf_terms.specs.Targets.{goal_of};
 ghost use Rattle.lf_terms.specs.Types.{type_of};
 ghost use Rattle.opening_laws.specs.Openings.{context_variable};
 ghost use Rattle.applications.specs.Candidates.{by_hypothesis, hypotheses_of, each};
-ghost use Rattle.build_shared.specs.RuleUses.{IsRuleUse, AddsWhatCounts};
+ghost use Rattle.build_shared.specs.RuleUses.{IsRuleUse, AddsWhatCounts, KeepsShapes};
 ghost use Rattle.build_shared.specs.Seen.{seen_hypothesis};
 ghost use Rattle.build_apply.specs.Heads.{MayClose};
 ghost use Rattle.build_apply.specs.Offers.{of_one_kind};
@@ -25,8 +25,9 @@ fn add_hypothesis(
 ) -> Result<(), NoMemory>
     requires usage { IsRuleUse usage.now }
     requires head { MayClose usage.now (context_variable (length usage.now.goal.now.ctx) hypothesis.now.place) (type_of hypothesis.now.ty) }
-    ensures { OnOk result (AddsWhatCounts usage.now (by_hypothesis usage.now.rule (goal_of usage.now.goal.now) usage.now.first (seen_hypothesis hypothesis.now))
+    ensures found { OnOk result (AddsWhatCounts usage.now (by_hypothesis usage.now.rule (goal_of usage.now.goal.now) usage.now.first (seen_hypothesis hypothesis.now))
         found.old.items found.new.items) }
+    ensures shapes { OnOk result (KeepsShapes usage.now found.old.items found.new.items) }
 {
     let head = variable_at(usage.goal.ctx.len(), hypothesis.place as usize)?;
     let mut hyps = Ids::new(usage.alloc);
@@ -48,9 +49,10 @@ fn add_of_kind(
 ) -> Result<(), NoMemory>
     requires usage { IsRuleUse usage.now }
     requires head { MayClose usage.now (context_variable (length usage.now.goal.now.ctx) hypothesis.now.place) (type_of hypothesis.now.ty) }
-    ensures { OnOk result (AddsWhatCounts usage.now
+    ensures found { OnOk result (AddsWhatCounts usage.now
         (each (of_one_kind atomic (seen_hypothesis hypothesis.now ∷ [])) (by_hypothesis usage.now.rule (goal_of usage.now.goal.now) usage.now.first))
         found.old.items found.new.items) }
+    ensures shapes { OnOk result (KeepsShapes usage.now found.old.items found.new.items) }
 {
     if is_atomic(&hypothesis.ty) != atomic {
         return Ok(());
@@ -65,9 +67,10 @@ pub fn add_hypotheses(
     found: &mut Vec<App>,
 ) -> Result<(), NoMemory>
     requires { IsRuleUse usage.now }
-    ensures { OnOk result (AddsWhatCounts usage.now
+    ensures found { OnOk result (AddsWhatCounts usage.now
         (each (of_one_kind atomic (hypotheses_of usage.now.goal.now.ctx)) (by_hypothesis usage.now.rule (goal_of usage.now.goal.now) usage.now.first))
         found.old.items found.new.items) }
+    ensures shapes { OnOk result (KeepsShapes usage.now found.old.items found.new.items) }
 {
     let all = hypotheses(usage.alloc, &usage.goal.ctx)?;
     let items = all.as_slice();

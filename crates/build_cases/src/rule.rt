@@ -10,7 +10,7 @@ ghost use Rattle.applications.specs.Candidates.{candidates};
 ghost use Rattle.application_laws.specs.Conditions.{TakesAtoms};
 ghost use Rattle.rule_sets.specs.Refusals.{IsOver};
 ghost use Rattle.rule_methods.specs.RuleMethods.{place_of_major, HasRule, AreApplications};
-ghost use Rattle.build_shared.specs.RuleUses.{IsRuleUse, AddsWhatCounts};
+ghost use Rattle.build_shared.specs.RuleUses.{IsRuleUse, AddsWhatCounts, KnowShapes};
 ghost use Rattle.build_shared.specs.Seen.{seen_application};
 ghost use Rattle.build_cases.specs.Splits.{IsCases};
 
@@ -29,8 +29,9 @@ use rule_sets::{Rule, RuleBook};
 use std::alloc::Global;
 
 /// The applications of a rule to the first goal of a list, in the order of the hypotheses that it splits: for each hypothesis without
-/// binders the constant with that as its major argument, where it counts. None where there is no goal. `NoMemory` comes where a growth is
-/// refused, or a number is past its type. The type is opened and unification runs once for each of these hypotheses.
+/// binders the constant with that as its major argument, where it counts. Each entry has the shapes of its goal's context. None where there
+/// is no goal. `NoMemory` comes where a growth is refused, or a number is past its type. The type is opened and unification runs once for
+/// each of these hypotheses.
 pub fn applications(
     alloc: Global,
     sig: &Signature,
@@ -41,7 +42,8 @@ pub fn applications(
     requires over { IsOver sig.now rules.now }
     requires rule { HasRule rules.now rule IsCases }
     requires goals { ShapedGoals sig.now (all_goals (goals_of goals.now)) }
-    ensures { IfOk result (λ apps. AreApplications sig.now rules.now rule (goals_of goals.now) (map seen_application apps.items)) }
+    ensures found { IfOk result (λ apps. AreApplications sig.now rules.now rule (goals_of goals.now) (map seen_application apps.items)) }
+    ensures shapes { IfOk result (λ apps. KnowShapes (all_goals (goals_of goals.now)) apps.items) }
 {
     sig.is_formed();
     let Some(goal) = first_goal(goals) else {
@@ -64,8 +66,9 @@ pub fn applications(
 fn split_by(usage: &RuleUse<'_>, rule: &Rule) -> Result<Vec<App>, NoMemory>
     requires usage { IsRuleUse usage.now }
     requires takes_atom { TakesAtoms usage.now.sig.now (splits rule.now.subject (place_of_major rule.now.major)) }
-    ensures { IfOk result (λ found. AddsWhatCounts usage.now
+    ensures found { IfOk result (λ found. AddsWhatCounts usage.now
         (candidates usage.now.sig.now usage.now.rule (splits rule.now.subject (place_of_major rule.now.major)) (goal_of usage.now.goal.now) usage.now.first) [] found.items) }
+    ensures shapes { IfOk result (λ found. KnowShapes (all_goals (goals_of usage.now.goals.now)) found.items) }
 {
     let Some(ty) = constant_type(usage.sig, rule.subject) else {
         return Ok(Vec::new(usage.alloc));

@@ -10,7 +10,7 @@ ghost use Rattle.applications.specs.Candidates.{hypotheses_of, are_atomic, candi
 ghost use Rattle.application_laws.specs.Conditions.{TakesAtoms};
 ghost use Rattle.rule_sets.specs.Refusals.{IsOver};
 ghost use Rattle.rule_methods.specs.RuleMethods.{HasRule, AreApplications};
-ghost use Rattle.build_shared.specs.RuleUses.{IsRuleUse, AddsWhatCounts};
+ghost use Rattle.build_shared.specs.RuleUses.{IsRuleUse, AddsWhatCounts, KnowShapes};
 ghost use Rattle.build_shared.specs.Seen.{seen_hypothesis, seen_application};
 ghost use Rattle.build_forward.specs.Onwards.{AddsHypothesis, drops_hypotheses, onward_method, IsOnward, tuple_offers};
 
@@ -31,9 +31,9 @@ use rule_sets::{Builder, RuleBook};
 use std::alloc::Global;
 
 /// The applications of a rule to the first goal of a list, in the lexicographic order of the hypotheses that stand for its premises: for
-/// each tuple of hypotheses without binders the constant with these, where it counts. None where there is no goal. `NoMemory` comes where
-/// a growth is refused, or a number is past its type. Tuples that begin with hypotheses for which the first premises are refused are passed
-/// over after one unification.
+/// each tuple of hypotheses without binders the constant with these, where it counts. Each entry has the shapes of its goal's context. None
+/// where there is no goal. `NoMemory` comes where a growth is refused, or a number is past its type. Tuples that begin with hypotheses for
+/// which the first premises are refused are passed over after one unification.
 pub fn applications(
     alloc: Global,
     sig: &Signature,
@@ -44,7 +44,8 @@ pub fn applications(
     requires over { IsOver sig.now rules.now }
     requires rule { HasRule rules.now rule AddsHypothesis }
     requires goals { ShapedGoals sig.now (all_goals (goals_of goals.now)) }
-    ensures { IfOk result (λ apps. AreApplications sig.now rules.now rule (goals_of goals.now) (map seen_application apps.items)) }
+    ensures found { IfOk result (λ apps. AreApplications sig.now rules.now rule (goals_of goals.now) (map seen_application apps.items)) }
+    ensures shapes { IfOk result (λ apps. KnowShapes (all_goals (goals_of goals.now)) apps.items) }
 {
     sig.is_formed();
     let Some(goal) = first_goal(goals) else {
@@ -76,8 +77,9 @@ fn drops_hypotheses(builder: Builder) -> bool
 fn go_onward(usage: &RuleUse<'_>, constant: u32, drops: bool) -> Result<Vec<App>, NoMemory>
     requires usage { IsRuleUse usage.now }
     requires atoms { TakesAtoms usage.now.sig.now (goes_forward constant) }
-    ensures { IfOk result (λ found. AddsWhatCounts usage.now
+    ensures found { IfOk result (λ found. AddsWhatCounts usage.now
         (candidates usage.now.sig.now usage.now.rule (onward_method drops constant) (goal_of usage.now.goal.now) usage.now.first) [] found.items) }
+    ensures shapes { IfOk result (λ found. KnowShapes (all_goals (goals_of usage.now.goals.now)) found.items) }
 {
     let Some(ty) = constant_type(usage.sig, constant) else {
         return Ok(Vec::new(usage.alloc));
@@ -101,7 +103,8 @@ fn go_onward(usage: &RuleUse<'_>, constant: u32, drops: bool) -> Result<Vec<App>
 // What comes of all tuples.
 fn found_by(onward: &Onward<'_>) -> Result<Vec<App>, NoMemory>
     requires { IsOnward onward.now }
-    ensures { IfOk result (λ found. AddsWhatCounts onward.now.usage.now (tuple_offers onward.now (length onward.now.premises.now) []) [] found.items) }
+    ensures found { IfOk result (λ found. AddsWhatCounts onward.now.usage.now (tuple_offers onward.now (length onward.now.premises.now) []) [] found.items) }
+    ensures shapes { IfOk result (λ found. KnowShapes (all_goals (goals_of onward.now.usage.now.goals.now)) found.items) }
 {
     let alloc = onward.usage.alloc;
     let mut found = Vec::new(alloc);

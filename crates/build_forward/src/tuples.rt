@@ -1,7 +1,7 @@
 //! The tuples of hypotheses, one after another.
 
 ghost use Rattle.std.specs.Prelude.{◌≡◌, ◌+◌, ◌++◌, ◌∷◌, [], map, length, All, IfOk, OnOk};
-ghost use Rattle.build_shared.specs.RuleUses.{AddsWhatCounts};
+ghost use Rattle.build_shared.specs.RuleUses.{AddsWhatCounts, KeepsShapes};
 ghost use Rattle.build_shared.specs.Seen.{seen_hypothesis};
 ghost use Rattle.build_forward.specs.Onwards.{IsOnward, IsAtomIn, tuple_offer, tuple_offers};
 ghost use Rattle.build_forward.specs.Sieves.{IsSieve};
@@ -24,7 +24,8 @@ pub fn go_on(
     requires sieve { IsSieve sieve.now }
     requires chosen { All (IsAtomIn sieve.now.onward.now.usage.now) (map seen_hypothesis chosen.now) }
     requires count { length chosen.now + left ≡ length sieve.now.onward.now.premises.now }
-    ensures { OnOk result (AddsWhatCounts sieve.now.onward.now.usage.now (tuple_offers sieve.now.onward.now left (map seen_hypothesis chosen.now)) found.old.items found.new.items) }
+    ensures found { OnOk result (AddsWhatCounts sieve.now.onward.now.usage.now (tuple_offers sieve.now.onward.now left (map seen_hypothesis chosen.now)) found.old.items found.new.items) }
+    ensures shapes { OnOk result (KeepsShapes sieve.now.onward.now.usage.now found.old.items found.new.items) }
 {
     let refused = is_refused(sieve, chosen)?;
     if refused {
@@ -50,7 +51,8 @@ pub fn add_tuple(
     requires onward { IsOnward onward.now }
     requires chosen { All (IsAtomIn onward.now.usage.now) (map seen_hypothesis chosen.now) }
     requires count { length chosen.now ≡ length onward.now.premises.now }
-    ensures { OnOk result (AddsWhatCounts onward.now.usage.now (tuple_offer onward.now (map seen_hypothesis chosen.now) ∷ []) found.old.items found.new.items) }
+    ensures found { OnOk result (AddsWhatCounts onward.now.usage.now (tuple_offer onward.now (map seen_hypothesis chosen.now) ∷ []) found.old.items found.new.items) }
+    ensures shapes { OnOk result (KeepsShapes onward.now.usage.now found.old.items found.new.items) }
 {
     let candidate = candidate_of(onward, chosen)?;
     add_if_counts(onward.usage, candidate, found)

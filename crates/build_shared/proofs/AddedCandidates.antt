@@ -1,5 +1,7 @@
--- What comes of candidates, one after another, is added to what was found before.
-use Rattle.std.proofs.Common.{◌≡◌, ℕ, Option, Some, None, List, [], ◌∷◌, ◌++◌, map, refl, sym, ap, ◌∙◌, append_assoc, append-nil}
+-- What comes of candidates, one after another, is added to what was found before, and its entries have the shapes of their goals' contexts.
+use Rattle.std.proofs.Common.{◌≡◌, ℕ, Option, Some, None, List, [], ◌∷◌, ◌++◌, map, subst, refl, sym, ap, ◌∙◌, append_assoc, append-nil}
+use Rattle.std.specs.Prelude.{IfSome}
+use Rattle.std.proofs.lemmas.List.Elements.{All-nil, All-push}
 use Rattle.lf_definitions.specs.Typing.{LfGoal}
 use Rattle.lf_definitions.specs.Signatures.{LfSignature}
 use Rattle.lf_definitions.specs.GoalLists.{all_goals}
@@ -7,10 +9,11 @@ use Rattle.lf_terms.specs.Targets.{goal_of}
 use Rattle.applications.specs.Methods.{LfCandidate}
 use Rattle.applications.specs.Applications.{LfApplication, application_of, with_some, of_candidates}
 use Rattle.meta_goals.specs.GoalsOf.{goals_of}
+use Rattle.meta_goals.specs.Laws.{HaveShapesOf}
 use Rattle.build_shared.specs.declared.app.App.{App}
 use Rattle.build_shared.specs.declared.rule_use.RuleUse.{RuleUse}
 use Rattle.build_shared.specs.Seen.{seen_application}
-use Rattle.build_shared.specs.RuleUses.{what_counts, AddsWhatCounts}
+use Rattle.build_shared.specs.RuleUses.{what_counts, AddsWhatCounts, KnowShapes}
 
 with_some-append : (o : Option LfApplication) (xs ys : List LfApplication) → with_some o (xs ++ ys) ≡ with_some o xs ++ ys
 with_some-append None xs ys = refl
@@ -22,6 +25,15 @@ of_candidates-append sig n goals g [] ds = refl
 of_candidates-append sig n goals g (c ∷ cs) ds =
     ap (with_some (application_of sig n goals g c)) (of_candidates-append sig n goals g cs ds)
     ∙ with_some-append (application_of sig n goals g c) (of_candidates sig n goals g cs) (of_candidates sig n goals g ds)
+
+pub none_know_shapes : (goals : List LfGoal) (apps : List App) → apps ≡ [] → KnowShapes goals apps
+none_know_shapes goals apps none = subst (KnowShapes goals) (sym none) (All-nil (λ a. HaveShapesOf goals a.assign))
+
+-- One application more.
+pub one_knows_shapes : (goals : List LfGoal) (answer : Option App) (app : App) (found more : List App) → IfSome answer (λ a. HaveShapesOf goals a.assign) → answer ≡ Some app → more ≡ found ++ app ∷ [] →
+    KnowShapes goals found → KnowShapes goals more
+one_knows_shapes goals answer app found more known is pushed before =
+    subst (KnowShapes goals) (sym pushed) (All-push (λ a. HaveShapesOf goals a.assign) found app before (subst (λ o. IfSome o (λ a. HaveShapesOf goals a.assign)) is known))
 
 module _ (u : RuleUse) where
   pub adds_nothing : (found : List App) → AddsWhatCounts u [] found found

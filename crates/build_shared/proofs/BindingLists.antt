@@ -1,12 +1,13 @@
 -- Lists of bindings whose numbers differ.
-use Rattle.std.proofs.Common.{◌≡◌, ◌≢◌, ℕ, zero, suc, ◌+◌, ◌<◌, ◌≤◌, Bool, true, false, Some, None, List, [], ◌∷◌, ◌++◌, length, take, All, AllPairs, refl, sym, ap, ap₂, ◌∙◌, subst, arith, slice_get}
+use Rattle.std.proofs.Common.{◌≡◌, ◌≢◌, ℕ, zero, suc, ◌+◌, ◌<◌, ◌≤◌, Bool, true, false, Some, None, List, [], ◌∷◌, ◌++◌, length, take, All, AllPairs, refl, sym, ap, ap₂, ◌∙◌, subst, arith, slice_get, append_assoc}
 use Rattle.std.specs.Prelude.{nat_lt, if◌then◌else◌, ◌||◌}
 use Rattle.std.specs.List.{list_any}
 use Rattle.std.proofs.lemmas.List.Folds.{list_any-append}
 use Rattle.std.proofs.lemmas.Bool.{eq-eqb, ne_eqb, lt-ltb, le-ltb}
-use Rattle.std.proofs.lemmas.List.Elements.{All-nil, All-cons, All-head, All-tail}
+use Rattle.std.proofs.lemmas.List.Elements.{All-nil, All-cons, All-head, All-tail, All-append}
 use Rattle.std.proofs.lemmas.Option.{slice_get_within, get_or_from_slice_get}
 use Rattle.head_laws.proofs.Numbers.{AllPairs-head, AllPairs-tail}
+use Rattle.goal_lists.proofs.Leaving.{All-parts}
 use Rattle.meta_goals.specs.Bindings.{LfBinding, binding_for}
 use Rattle.build_shared.specs.Whole.{bindings_below}
 
@@ -80,17 +81,33 @@ is_below n b less = ap (λ test. if test then b ∷ [] else []) (lt-ltb b.number
 pub is_not_below : (n : ℕ) (b : LfBinding) → n ≤ b.number → bindings_below n (b ∷ []) ≡ []
 is_not_below n b more = ap (λ test. if test then b ∷ [] else []) (le-ltb b.number n more)
 
--- one more of those below
-pub below_next : (n : ℕ) (bindings : List LfBinding) (i : ℕ) (b : LfBinding) (below new : List LfBinding) → slice_get bindings i ≡ Some b → below ≡ bindings_below n (take i bindings) → new ≡ below ++ bindings_below n (b ∷ []) →
-    new ≡ bindings_below n (take (i + 1) bindings)
-below_next n bindings i b below new there so_far made =
-    made ∙ ap (λ l. l ++ bindings_below n (b ∷ [])) so_far ∙ sym (below_more n (take i bindings) b) ∙ ap (bindings_below n) (sym (take_found bindings i b there))
+-- Those after others differ from them, and from each other.
+others_differ : (old entries : List LfBinding) (i : ℕ) (b : LfBinding) → slice_get entries i ≡ Some b → HaveDifferentNumbers (old ++ entries) → All (λ (x : LfBinding). x.number ≢ b.number) old
+others_differ [] entries i b there differ = All-nil (λ (x : LfBinding). x.number ≢ b.number)
+others_differ (x ∷ old) entries i b there differ =
+    All-cons (λ (y : LfBinding). y.number ≢ b.number) x old
+    (All-at (λ (y : LfBinding). x.number ≢ y.number) entries i b (All-parts (λ (y : LfBinding). x.number ≢ y.number) old entries (AllPairs-head (λ (y : LfBinding) z. y.number ≢ z.number) x (old ++ entries) differ)).1 there)
+    (others_differ old entries i b there (AllPairs-tail (λ (y : LfBinding) z. y.number ≢ z.number) x (old ++ entries) differ))
 
-pub below_before : (n : ℕ) (bindings : List LfBinding) (i : ℕ) (b : LfBinding) (below : List LfBinding) → slice_get bindings i ≡ Some b → HaveDifferentNumbers bindings → below ≡ bindings_below n (take i bindings) →
+differ_after : (old entries : List LfBinding) → HaveDifferentNumbers (old ++ entries) → HaveDifferentNumbers entries
+differ_after [] entries differ = differ
+differ_after (x ∷ old) entries differ = differ_after old entries (AllPairs-tail (λ (y : LfBinding) z. y.number ≢ z.number) x (old ++ entries) differ)
+
+-- one more of those below
+pub below_next : (n : ℕ) (bindings : List LfBinding) (i : ℕ) (b : LfBinding) (old below new : List LfBinding) → slice_get bindings i ≡ Some b → below ≡ old ++ bindings_below n (take i bindings) → new ≡ below ++ bindings_below n (b ∷ []) →
+    new ≡ old ++ bindings_below n (take (i + 1) bindings)
+below_next n bindings i b old below new there so_far made =
+    made ∙ ap (λ l. l ++ bindings_below n (b ∷ [])) so_far ∙ append_assoc old (bindings_below n (take i bindings)) (bindings_below n (b ∷ []))
+    ∙ ap (λ l. old ++ l) (sym (below_more n (take i bindings) b) ∙ ap (bindings_below n) (sym (take_found bindings i b there)))
+
+pub below_before : (n : ℕ) (bindings : List LfBinding) (i : ℕ) (b : LfBinding) (old below : List LfBinding) → slice_get bindings i ≡ Some b → HaveDifferentNumbers (old ++ bindings) → below ≡ old ++ bindings_below n (take i bindings) →
     binding_for below b.number ≡ None
-below_before n bindings i b below there differ so_far =
+below_before n bindings i b old below there differ so_far =
+    let those = bindings_below n (take i bindings) in
     ap (λ l. binding_for l b.number) so_far
-    ∙ none_of (bindings_below n (take i bindings)) b.number (All-below (λ (x : LfBinding). x.number ≢ b.number) n (take i bindings) (before_differ bindings i b there differ))
+    ∙ none_of (old ++ those) b.number
+    (All-append (λ (x : LfBinding). x.number ≢ b.number) old those (others_differ old bindings i b there differ)
+    (All-below (λ (x : LfBinding). x.number ≢ b.number) n (take i bindings) (before_differ bindings i b there (differ_after old bindings differ))))
 
 -- whether one passes a test
 pub none_next : (test : LfBinding → Bool) (bindings : List LfBinding) (i : ℕ) (b : LfBinding) → slice_get bindings i ≡ Some b → list_any test (take i bindings) ≡ false → test b ≡ false → list_any test (take (i + 1) bindings) ≡ false

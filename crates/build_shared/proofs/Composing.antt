@@ -29,7 +29,7 @@ use Rattle.build_shared.proofs.BindingLists.{All-from_places, All-at}
 use Rattle.build_shared.proofs.WholeBindings.{whole_entries, σ_is, ρ_is, remains, tested_besides, all_is, remaining_is}
 
 -- entries among goals whose numbers are below the fresh ones
-entries_below : (n : ℕ) (numbers : List ℕ) (bindings : List LfBinding) → All (λ (b : LfBinding). nat_lt b.number n ≡ list_any (nat_eq b.number) numbers) bindings →
+pub entries_below : (n : ℕ) (numbers : List ℕ) (bindings : List LfBinding) → All (λ (b : LfBinding). nat_lt b.number n ≡ list_any (nat_eq b.number) numbers) bindings →
     map assigned_of (bindings_below n bindings) ≡ entries_among numbers (map assigned_of bindings)
 entries_below n numbers [] all = refl
 entries_below n numbers (b ∷ rest) all =

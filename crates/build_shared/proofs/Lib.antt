@@ -2,14 +2,14 @@ mod GreatestNumbers
 mod TurnedMarks
 mod RaisedTypes
 mod ContextEntries
-mod BindingLists
+pub mod BindingLists
 mod FrozenNumbers
-mod UnifierEnds
-mod InstancesAmong
+pub mod UnifierEnds
+pub mod InstancesAmong
 mod WholeBindings
-mod FreshParts
+pub mod FreshParts
 mod EntryTests
-mod Composing
+pub mod Composing
 mod KeptPlaces
 mod DroppedPlaces
 mod AddingTests

@@ -1,6 +1,6 @@
 -- The marks of arguments that aren't fixed, one after another.
-use Rattle.std.proofs.Common.{◌≡◌, ℕ, zero, suc, ◌+◌, ◌<◌, Bool, true, false, Option, Some, None, List, [], ◌∷◌, ◌++◌, length, get_or, drop, refl, sym, ap, ◌∙◌, arith, add-one, append-nil, append_assoc, drop-cons}
-use Rattle.std.specs.Prelude.{if◌then◌else◌, is_some}
+use Rattle.std.proofs.Common.{◌≡◌, ℕ, suc, ◌+◌, ◌<◌, Bool, true, false, Option, Some, None, List, [], ◌∷◌, ◌++◌, length, get_or, drop, refl, sym, ap, ◌∙◌, add-one, append-nil, append_assoc, drop-cons}
+use Rattle.std.specs.Prelude.{is_some}
 use Rattle.opening_laws.specs.Openings.{fixed_to}
 use Rattle.applications.specs.Candidates.{skipping, unfixed_marks}
 

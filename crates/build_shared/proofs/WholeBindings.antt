@@ -41,10 +41,17 @@ use Rattle.meta_goals.proofs.ChangedTerms.{under_all-metavariable}
 use Rattle.meta_goals.proofs.LeftGoals.{is_assigned}
 use Rattle.build_shared.specs.Attempts.{IsCompletedBy}
 use Rattle.build_shared.specs.Remaining.{CanLeave}
-use Rattle.build_shared.specs.Whole.{goal_binding, put_binding, other_bindings, with_body, MayBeTested}
-use Rattle.build_shared.proofs.BindingLists.{HaveDifferentNumbers, take_found, All-from_places, All-at, before_differ, found_own, none_of}
+use Rattle.build_shared.specs.Whole.{goal_binding, put_binding, other_bindings, with_body, MayBeTested, bindings_below}
+use Rattle.build_shared.proofs.BindingLists.{HaveDifferentNumbers, take_found, All-from_places, All-at, before_differ, found_own, none_of, All-below}
 use Rattle.build_shared.proofs.InstancesAmong.{instantiates_in, can_leave}
 use Rattle.build_shared.proofs.UnifierEnds.{goal_shape, context_shapes, numbers_differ}
+
+-- Those of numbers below another have the shapes of their goals' contexts, among the first goals.
+pub below_have_shapes : (goals fresh : List LfGoal) (n : ℕ) (bindings : List LfBinding) → HaveShapesOf (goals ++ fresh) bindings → HaveShapesOf goals (bindings_below n bindings)
+below_have_shapes goals fresh n bindings all =
+    All-below (λ b. All (λ g. g.id ≡ b.number → b.shapes ≡ shapes_of_types g.context) goals) n bindings
+    (All-weaker (λ b. All (λ g. g.id ≡ b.number → b.shapes ≡ shapes_of_types g.context) (goals ++ fresh)) (λ b. All (λ g. g.id ≡ b.number → b.shapes ≡ shapes_of_types g.context) goals)
+    (λ b whole. (All-parts (λ g. g.id ≡ b.number → b.shapes ≡ shapes_of_types g.context) goals fresh whole).0) bindings all)
 
 -- what is under the abstractions over a context
 under_shaped_lams : (shapes : List SimpleType) (Γ : Scope) (b : LfTerm) → Shaped Γ (lams (length shapes) b) (arrows shapes base) → Shaped (under_all shapes Γ) b base

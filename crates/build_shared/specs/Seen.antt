@@ -1,5 +1,5 @@
 -- Candidates and applications of the code, seen as plain data.
-use Rattle.std.specs.Prelude.{List, map}
+use Rattle.std.specs.Prelude.{map}
 use Rattle.lf_definitions.specs.Syntax.{LfAtom}
 use Rattle.lf_terms.specs.declared.ty.Atom.{Atom}
 use Rattle.lf_terms.specs.Terms.{head_of}

@@ -9,6 +9,7 @@ mod answering;
 pub mod app;
 pub mod arguments;
 mod attempt;
+pub mod below;
 pub mod candidate;
 mod completing;
 pub mod constants;

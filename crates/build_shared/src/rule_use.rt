@@ -5,7 +5,7 @@ ghost use Rattle.lf_definitions.specs.GoalLists.{all_goals};
 ghost use Rattle.lf_terms.specs.Targets.{goal_of};
 ghost use Rattle.meta_goals.specs.GoalsOf.{goals_of};
 ghost use Rattle.application_laws.specs.Conditions.{MayBeUsed};
-ghost use Rattle.build_shared.specs.RuleUses.{IsRuleUse, AddsWhatCounts};
+ghost use Rattle.build_shared.specs.RuleUses.{IsRuleUse, AddsWhatCounts, KeepsShapes};
 ghost use Rattle.build_shared.specs.Seen.{seen_candidate};
 
 use crate::app::App;
@@ -36,7 +36,8 @@ pub fn add_if_counts(
 ) -> Result<(), NoMemory>
     requires usage { IsRuleUse usage.now }
     requires candidate { MayBeUsed usage.now.sig.now (all_goals (goals_of usage.now.goals.now)) usage.now.first (goal_of usage.now.goal.now) (seen_candidate candidate) }
-    ensures { OnOk result (AddsWhatCounts usage.now (seen_candidate candidate ∷ []) found.old.items found.new.items) }
+    ensures found { OnOk result (AddsWhatCounts usage.now (seen_candidate candidate ∷ []) found.old.items found.new.items) }
+    ensures shapes { OnOk result (KeepsShapes usage.now found.old.items found.new.items) }
 {
     let answer = application_of(usage.alloc, usage.sig, usage.goals, usage.first, candidate)?;
     match answer {

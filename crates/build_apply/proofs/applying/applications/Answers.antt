@@ -12,6 +12,7 @@ use Rattle.rule_sets.specs.Books.{Book}
 use Rattle.rule_methods.specs.RuleMethods.{method_of, applications_of}
 use Rattle.meta_goals.specs.GoalsOf.{goals_of}
 use Rattle.build_shared.specs.Seen.{seen_application}
+use Rattle.build_shared.proofs.AddedCandidates.{none_know_shapes}
 use Rattle.build_shared.proofs.WholeUses.{begins_use, whole_use}
 use Rattle.build_apply.proofs.applying.applications.Goals as goal
 
@@ -28,8 +29,8 @@ all_applications sig book number n goals g read rule next is here there =
     whole_use sig number (method_of book.lists read) n goals g is ∙ ap (λ m. applications sig number (method_of book.lists read) m goals) next
     ∙ ap (λ r. applications_of sig book.lists number r goals) (same_Some read rule (sym here ∙ there))
 
-pub returns : goal.returns
-returns c =
+pub returns-clause-found : goal.returns-clause-found
+returns-clause-found c =
     let sig = c.args.sig.now in
     let book = c.args.rules.now in
     let goals = goals_of c.args.goals.now in
@@ -39,5 +40,8 @@ returns c =
     let is = sym (ap (option_map (λ x. goal_of x.now)) c.in-Some.is) ∙ c.first_goal.ensures in
     let offered = candidates sig c.args.rule (method_of book.lists read) g n in
     λ rule there.
-    c.in_ok-add_rule.ensures ∙ ap (λ l. map seen_application l ++ of_candidates sig n (all_goals goals) g offered) c.new-found.ensures.items
+    c.in_ok-add_rule.ensures.found ∙ ap (λ l. map seen_application l ++ of_candidates sig n (all_goals goals) g offered) c.new-found.ensures.items
     ∙ all_applications sig book c.args.rule n goals g read rule c.in_ok-first.ensures is c.rule.ensures there
+
+pub returns-clause-shapes : goal.returns-clause-shapes
+returns-clause-shapes c = c.in_ok-add_rule.ensures.shapes (none_know_shapes (all_goals (goals_of c.args.goals.now)) _ c.new-found.ensures.items)

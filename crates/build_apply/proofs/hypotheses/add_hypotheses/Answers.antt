@@ -22,7 +22,10 @@ loop-i-init c =
     let u = c.args.usage.now in
     let f = by_hypothesis u.rule (goal_of u.goal.now) u.first in
     let all = ap (map seen_hypothesis) c.as_slice-items.ensures.value ∙ c.in_ok-all.ensures in
-    subst (λ hs. IsLeft u (offered f c.args.atomic hs) (offered f c.args.atomic (hypotheses_of u.goal.now.ctx)) c.args.found.now.items c.args.found.now.items) (sym all) refl
+    record {
+      left = subst (λ hs. IsLeft u (offered f c.args.atomic hs) (offered f c.args.atomic (hypotheses_of u.goal.now.ctx)) c.args.found.now.items c.args.found.now.items) (sym all) refl;
+      shapes = λ before. before;
+    }
 
 pub add_of_kind-requires-clause-head : goal.add_of_kind-requires-clause-head
 add_of_kind-requires-clause-head c =
@@ -40,13 +43,16 @@ loop-i-preserved c =
     let items = c.as_slice-items.result.now in
     let i = c.loop-i.i in
     let h = c.index-items-i.result in
-    less_is_left u (offered f c.args.atomic (seen_hypothesis h ∷ [])) (offered_from f c.args.atomic (i + 1) items) (offered_from f c.args.atomic i items)
-    (offered f c.args.atomic (hypotheses_of u.goal.now.ctx)) c.args.found.now.items c.loop-i.found.items _ (offered_more f c.args.atomic i items h c.loop-i-test.true c.index-items-i.is)
-    c.loop-i.invariant c.in_ok-add_of_kind.ensures
+    record {
+      left = less_is_left u (offered f c.args.atomic (seen_hypothesis h ∷ [])) (offered_from f c.args.atomic (i + 1) items) (offered_from f c.args.atomic i items)
+          (offered f c.args.atomic (hypotheses_of u.goal.now.ctx)) c.args.found.now.items c.loop-i.found.items _ (offered_more f c.args.atomic i items h c.loop-i-test.true c.index-items-i.is)
+          c.loop-i.invariant.left c.in_ok-add_of_kind.ensures.found;
+      shapes = λ before. c.in_ok-add_of_kind.ensures.shapes (c.loop-i.invariant.shapes before);
+    }
 
-pub returns : goal.returns
-returns c =
+pub returns-clause-found : goal.returns-clause-found
+returns-clause-found c =
     let u = c.args.usage.now in
     let f = by_hypothesis u.rule (goal_of u.goal.now) u.first in
     nothing_is_left u (offered_from f c.args.atomic c.loop-i.i c.as_slice-items.result.now) (offered f c.args.atomic (hypotheses_of u.goal.now.ctx)) c.args.found.now.items c.loop-i.found.items
-    (offered_last f c.args.atomic c.loop-i.i c.as_slice-items.result.now c.loop-i-test.false) c.loop-i.invariant
+    (offered_last f c.args.atomic c.loop-i.i c.as_slice-items.result.now c.loop-i-test.false) c.loop-i.invariant.left

@@ -22,10 +22,10 @@ split_by-requires-clause-takes_atom c =
     let is = builder_is a.rules.now a.rule c.rule.result.now c.rule.ensures c.requires.rule in
     takes_atoms a.sig.now a.rules.now c.requires.over a.rule c.rule.result.now c.rule.ensures is
 
-pub returns : goal.returns
-returns c =
+pub returns-clause-found : goal.returns-clause-found
+returns-clause-found c =
     let a = c.args in
     let is = sym (ap (option_map (λ g. goal_of g.now)) c.in-Some.is) ∙ c.first_goal.ensures in
     let builds = builder_is a.rules.now a.rule c.rule.result.now c.rule.ensures c.requires.rule in
     λ rule here. all_applications a.sig.now a.rules.now c.requires.over a.rule (goals_of a.goals.now) c.in_ok-first.first (goal_of c.in-Some.goal.now) (map seen_application c.in_ok-found.found.items) c.rule.result.now rule
-    c.in_ok-first.ensures is builds c.rule.ensures here c.in_ok-found.ensures
+    c.in_ok-first.ensures is builds c.rule.ensures here c.in_ok-found.ensures.found

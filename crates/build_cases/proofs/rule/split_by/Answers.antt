@@ -32,11 +32,11 @@ split_each-requires c =
       hypotheses_are = ap (map seen_hypothesis) c.as_slice-2.ensures.value ∙ c.in_ok-hyps.ensures;
     }
 
-pub returns : goal.returns
-returns c =
+pub returns-clause-found : goal.returns-clause-found
+returns-clause-found c =
     let u = c.args.usage.now in
     let r = c.args.rule.now in
     let type_is = sym (sym (ap (option_map (λ t. type_of t.now)) c.in-Some.is) ∙ c.constant_type.ensures) in
     let same = c.saturating_sub.ensures ∙ sym (place_is r.major) in
     subst (λ cs. AddsWhatCounts u cs [] c.in_ok-found.found.items)
-    (offered_by_rule u.sig.now u.rule r.subject c.saturating_sub.result (place_of_major r.major) (goal_of u.goal.now) u.first (type_of c.in-Some.ty.now) type_is same) c.in_ok-found.ensures
+    (offered_by_rule u.sig.now u.rule r.subject c.saturating_sub.result (place_of_major r.major) (goal_of u.goal.now) u.first (type_of c.in-Some.ty.now) type_is same) c.in_ok-found.ensures.found

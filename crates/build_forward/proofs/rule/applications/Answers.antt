@@ -18,12 +18,12 @@ go_onward-requires-clause-atoms c =
     let read = c.rule-item.result.now in
     takes_atoms a.sig.now a.rules.now c.requires.over a.rule read c.rule-item.ensures (builder_adds a.rules.now a.rule read c.rule-item.ensures c.requires.rule)
 
-pub returns : goal.returns
-returns c =
+pub returns-clause-found : goal.returns-clause-found
+returns-clause-found c =
     let a = c.args in
     let read = c.rule-item.result.now in
     let is = sym (ap (option_map (λ x. goal_of x.now)) c.in-Some.is) ∙ c.first_goal.ensures in
     λ rule there.
     all_applications a.sig.now a.rules.now c.requires.over a.rule read c.rule-item.ensures (builder_adds a.rules.now a.rule read c.rule-item.ensures c.requires.rule)
     (goals_of a.goals.now) c.in_ok-first.first (goal_of c.in-Some.goal.now) c.drops_hypotheses-drops.result (map seen_application c.in_ok-found.found.items) rule c.in_ok-first.ensures is
-    c.drops_hypotheses-drops.ensures there c.in_ok-found.ensures
+    c.drops_hypotheses-drops.ensures there c.in_ok-found.ensures.found

@@ -23,12 +23,12 @@ found_by-requires c =
       atoms = subst (All (IsAtomIn u)) (sym (ap (map seen_hypothesis) c.as_slice-3.ensures.value ∙ c.in_ok-hyps.ensures)) (all_atoms u c.requires.usage);
     }
 
-pub returns : goal.returns
-returns c =
+pub returns-clause-found : goal.returns-clause-found
+returns-clause-found c =
     let u = c.args.usage.now in
     let type = type_of c.in-Some.ty.now in
     let is = sym (ap (option_map (λ t. type_of t.now)) c.in-Some.is) ∙ c.constant_type.ensures in
     subst (λ cs. AddsWhatCounts u cs [] c.in_ok-found.found.items)
     (all_offered u.sig.now u.rule c.args.constant c.args.drops (goal_of u.goal.now) u.first type c.in_ok-premises.premises (map seen_hypothesis c.as_slice-3.result.now)
     (c.in_ok-premises.ensures ∙ ap (marked_from 0) (c.as_slice.ensures.value ∙ c.in_ok-marks.ensures) ∙ marked-premises 0 type)
-    (ap (map seen_hypothesis) c.as_slice-3.ensures.value ∙ c.in_ok-hyps.ensures) is) c.in_ok-found.ensures
+    (ap (map seen_hypothesis) c.as_slice-3.ensures.value ∙ c.in_ok-hyps.ensures) is) c.in_ok-found.ensures.found

@@ -7,8 +7,8 @@ use Rattle.build_forward.proofs.OfferedTuples.{less_left, atoms_more, one_longer
 use Rattle.build_forward.proofs.PassedTuples.{passed_over}
 use Rattle.build_forward.proofs.tuples.+go_on.Goals as goal
 
-pub returns-then-refused : goal.returns-then-refused
-returns-then-refused t c =
+pub returns-then-refused-clause-found : goal.returns-then-refused-clause-found
+returns-then-refused-clause-found t c =
     let a = c.args in
     let o = a.sieve.now.onward.now in
     let chosen = map seen_hypothesis a.chosen.now in
@@ -31,5 +31,8 @@ loop-i-preserved t c =
     let o = a.sieve.now.onward.now in
     let u = o.usage.now in
     let are = ap (map seen_hypothesis) c.as_slice.ensures.value ∙ c.in_ok-longer.ensures in
-    less_left o a.left (map seen_hypothesis a.chosen.now) a.found.now.items c.loop-i.i c.index-hyps-i.result c.loop-i.found.items c.go_on.new.found.items c.loop-i-test.true c.index-hyps-i.is c.loop-i.invariant
-    (subst (λ hs. AddsWhatCounts u (tuple_offers o (a.left - 1) hs) c.loop-i.found.items c.go_on.new.found.items) are c.in_ok-go_on.ensures)
+    record {
+      left = less_left o a.left (map seen_hypothesis a.chosen.now) a.found.now.items c.loop-i.i c.index-hyps-i.result c.loop-i.found.items c.go_on.new.found.items c.loop-i-test.true c.index-hyps-i.is c.loop-i.invariant.left
+          (subst (λ hs. AddsWhatCounts u (tuple_offers o (a.left - 1) hs) c.loop-i.found.items c.go_on.new.found.items) are c.in_ok-go_on.ensures.found);
+      shapes = λ before. c.in_ok-go_on.ensures.shapes (c.loop-i.invariant.shapes before);
+    }

@@ -1,4 +1,5 @@
 use Rattle.std.proofs.Common.{map}
+use Rattle.build_shared.specs.RuleUses.{KeepsShapes}
 use Rattle.build_shared.specs.Seen.{seen_hypothesis}
 use Rattle.build_forward.proofs.OfferedTuples.{IsLeftFrom}
 use Rattle.build_forward.proofs.tuples.+go_on.Given as goal
@@ -7,4 +8,8 @@ abbrev pub decreases-go_on : goal.decreases-go_on
 decreases-go_on l = l.left
 
 abbrev pub invariant-loop-i : goal.invariant-loop-i
-invariant-loop-i l = IsLeftFrom l.sieve.onward.now l.left (map seen_hypothesis l.chosen) l.fn.found.items l.i l.found.items
+invariant-loop-i l =
+    record {
+      left : IsLeftFrom l.sieve.onward.now l.left (map seen_hypothesis l.chosen) l.fn.found.items l.i l.found.items;
+      shapes : KeepsShapes l.sieve.onward.now.usage.now l.fn.found.items l.found.items;
+    }

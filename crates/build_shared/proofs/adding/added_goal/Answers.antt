@@ -1,11 +1,6 @@
-use Rattle.std.proofs.Common.{◌≡◌, [], ◌∷◌, ◌++◌, length, sym, ap, ◌∙◌, subst}
-use Rattle.lf_definitions.specs.Syntax.{atomic, LfAtom}
-use Rattle.lf_definitions.specs.Renaming.{rename_type}
+use Rattle.std.proofs.Common.{[], ◌∷◌, ◌++◌, sym, ap, ◌∙◌, subst}
 use Rattle.lf_terms.specs.Targets.{goal_of}
 use Rattle.lf_terms.specs.Types.{type_of, types_of}
-use Rattle.opening_laws.specs.Openings.{keeping, returning}
-use Rattle.opening_laws.specs.Conditions.{MentionsNone, is_dropped}
-use Rattle.opening_laws.proofs.Kept.{keeping_type}
 use Rattle.meta_openings.specs.Tables.{AreTables}
 use Rattle.build_shared.specs.Seen.{seen_atom}
 use Rattle.build_shared.specs.Conditions.{HasShapes}

@@ -1,5 +1,5 @@
-use Rattle.std.proofs.Common.{◌≡◌, ◌<◌, [], ◌∷◌, ◌++◌, length, All, sym, ap, ap₂, ◌∙◌, subst}
-use Rattle.lf_definitions.specs.Syntax.{metavariable, at, arg, no_args, joined}
+use Rattle.std.proofs.Common.{◌<◌, [], ◌∷◌, ◌++◌, length, All, sym, ap, ap₂, ◌∙◌, subst}
+use Rattle.lf_definitions.specs.Syntax.{arg, no_args, joined}
 use Rattle.lf_definitions.proofs.Renaming.{rename_spine-same_head}
 use Rattle.head_laws.proofs.Results.{length-shapes_of_types}
 use Rattle.lf_terms.specs.Targets.{goal_of}
@@ -9,7 +9,7 @@ use Rattle.opening_laws.proofs.Kept.{entries_unique}
 use Rattle.applications.specs.OpenedTypes.{kept_entries}
 use Rattle.applications.specs.Applications.{goal_with}
 use Rattle.meta_openings.specs.Tables.{AreTables}
-use Rattle.build_shared.specs.Added.{with_one_more, CanAdd}
+use Rattle.build_shared.specs.Added.{CanAdd}
 use Rattle.build_shared.specs.Seen.{seen_atom}
 use Rattle.build_shared.proofs.OneMoreHypothesis.{made_of}
 use Rattle.build_shared.proofs.adding.one_more.Goals as goal

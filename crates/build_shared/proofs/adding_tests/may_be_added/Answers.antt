@@ -1,4 +1,4 @@
-use Rattle.std.proofs.Common.{◌≡◌, ◌<◌, ℕ, Bool, true, false, List, length, All, refl, sym, ap, ap₂, ◌∙◌, subst, subst₂}
+use Rattle.std.proofs.Common.{◌<◌, ℕ, Bool, true, false, List, length, All, refl, sym, ap, ap₂, ◌∙◌, subst, subst₂}
 use Rattle.std.specs.Prelude.{not}
 use Rattle.std.specs.List.{list_all}
 use Rattle.std.proofs.lemmas.Result.{IfOk-weaker}
@@ -7,7 +7,7 @@ use Rattle.head_laws.specs.Mentions.{occurs_in_type}
 use Rattle.lf_terms.specs.Targets.{goal_of}
 use Rattle.lf_terms.specs.Types.{type_of}
 use Rattle.opening_laws.specs.Openings.{context_variable}
-use Rattle.applications.specs.Candidates.{without, places_of, hypotheses_of}
+use Rattle.applications.specs.Candidates.{without, hypotheses_of}
 use Rattle.applications.specs.Applications.{kept_types_are}
 use Rattle.build_shared.specs.Added.{fits_beside}
 use Rattle.build_shared.specs.Seen.{seen_atom}

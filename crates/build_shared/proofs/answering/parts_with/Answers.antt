@@ -1,7 +1,8 @@
-use Rattle.std.proofs.Common.{true, false, sym, ◌∙◌}
+use Rattle.std.proofs.Common.{true, false, sym, ◌∙◌, subst}
+use Rattle.meta_goals.specs.Laws.{HaveShapesOf}
 use Rattle.build_shared.specs.Attempts.{goals_at, goal_at, candidate_at}
 use Rattle.build_shared.specs.Completed.{seen_completed}
-use Rattle.build_shared.proofs.WholeBindings.{tested_in, all_differ}
+use Rattle.build_shared.proofs.WholeBindings.{tested_in, all_differ, below_have_shapes}
 use Rattle.build_shared.proofs.Composing.{counts_in, parts_are}
 use Rattle.build_shared.proofs.answering.parts_with.Goals as goal
 
@@ -15,8 +16,8 @@ are_typed-requires c =
     tested_in a.sig.now (goals_at a) a.first (goal_at a) (candidate_at a) c.args.entries.now (seen_completed c.args.done.now) w.completed_at c.in_ok-whole.whole.all c.in_ok-whole.whole.others w.others_are w.all_are
     c.in_ok-left.left.list c.in_ok-left.ensures.list
 
-pub returns-then-not-branch : goal.returns-then-not-branch
-returns-then-not-branch c =
+pub returns-then-not-branch-clause-found : goal.returns-then-not-branch-clause-found
+returns-then-not-branch-clause-found c =
     let a = c.args.attempt.now in
     let w = c.in_ok-whole.ensures in
     counts_in a.sig.now (goals_at a) a.first (goal_at a) (candidate_at a) c.args.entries.now (seen_completed c.args.done.now) w.completed_at c.in_ok-whole.whole.all c.in_ok-whole.whole.others w.others_are w.all_are
@@ -28,8 +29,8 @@ entries_below-requires c =
     let w = c.in_ok-whole.ensures in
     all_differ a.sig.now (goals_at a) a.first (goal_at a) (candidate_at a) c.args.entries.now (seen_completed c.args.done.now) w.completed_at c.in_ok-whole.whole.all c.in_ok-whole.whole.others w.others_are w.all_are
 
-pub returns : goal.returns
-returns c =
+pub returns-clause-found : goal.returns-clause-found
+returns-clause-found c =
     let a = c.args.attempt.now in
     let w = c.in_ok-whole.ensures in
     parts_are a.sig.now (goals_at a) a.first (goal_at a) (candidate_at a) c.args.entries.now (seen_completed c.args.done.now) w.completed_at c.in_ok-whole.whole.all c.in_ok-whole.whole.others w.others_are w.all_are
@@ -37,3 +38,11 @@ returns c =
     c.in_ok-left.ensures.witnesses c.assigns_another-assigns_others.ensures
     ∙ counts_in a.sig.now (goals_at a) a.first (goal_at a) (candidate_at a) c.args.entries.now (seen_completed c.args.done.now) w.completed_at c.in_ok-whole.whole.all c.in_ok-whole.whole.others w.others_are w.all_are
     c.in_ok-left.left.list c.in_ok-left.ensures.list true (sym c.if-not-branch.false ∙ c.in_ok-are_typed.ensures)
+
+pub returns-clause-shapes : goal.returns-clause-shapes
+returns-clause-shapes c =
+    let a = c.args.attempt.now in
+    let w = c.in_ok-whole.ensures in
+    let tested = tested_in a.sig.now (goals_at a) a.first (goal_at a) (candidate_at a) c.args.entries.now (seen_completed c.args.done.now) w.completed_at c.in_ok-whole.whole.all c.in_ok-whole.whole.others w.others_are w.all_are
+    c.in_ok-left.left.list c.in_ok-left.ensures.list in
+    subst (HaveShapesOf (goals_at a)) (sym c.in_ok-assign.ensures) (below_have_shapes (goals_at a) (candidate_at a).opened.fresh a.first c.in_ok-whole.whole.all tested.have_shapes)
