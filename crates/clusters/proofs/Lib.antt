@@ -1,0 +1,5 @@
+pub mod Elements
+pub mod Classes
+pub mod Connected
+pub mod Renamed
+pub mod Laws

@@ -1,0 +1,5 @@
+use Rattle.clusters.proofs.clusters_are_shaped.Goals as goal
+use Rattle.clusters.proofs.Laws
+
+pub returns : goal.returns
+returns c = Laws.clusters_are_shaped
