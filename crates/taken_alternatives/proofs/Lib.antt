@@ -1,0 +1,5 @@
+pub mod Lists
+pub mod Numbers
+pub mod NormalForms
+pub mod Alternatives
+pub mod Laws
