@@ -1,0 +1,4 @@
+pub mod NewNumbers
+pub mod ListsAfter
+pub mod NormalForms
+pub mod Alternatives
