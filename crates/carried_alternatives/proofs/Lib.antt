@@ -1,0 +1,3 @@
+pub mod NumberedBack
+pub mod ForgottenNumbers
+pub mod CarriedOver
