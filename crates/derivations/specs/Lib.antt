@@ -1,0 +1,4 @@
+pub mod Derivations
+pub mod Replays
+pub mod Unfolding
+pub mod Laws
