@@ -1,0 +1,9 @@
+pub mod Mentioning
+pub mod LinkLaws
+pub mod Joining
+pub mod Deals
+pub mod Places
+pub mod Roots
+pub mod Heads
+pub mod Parts
+pub mod Whole
