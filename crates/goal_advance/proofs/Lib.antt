@@ -1,0 +1,4 @@
+mod GoalsAfter
+mod EarlierEntries
+mod LaterEntries
+pub mod NewGoals
