@@ -1,0 +1,10 @@
+pub mod OneOrder
+pub mod Ranks
+pub mod RuleLists
+pub mod FittingRules
+pub mod SortedRanks
+pub mod Steps
+pub mod Answered
+pub mod Added
+pub mod Opened
+pub mod TakenChoices
