@@ -1,0 +1,4 @@
+mod Wrongs
+mod Starts
+mod Cuts
+pub mod Verdicts
