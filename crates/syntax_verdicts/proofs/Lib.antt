@@ -1,0 +1,4 @@
+mod Prefixes
+mod Stops
+mod Reached
+pub mod Verdicts
