@@ -1,0 +1,9 @@
+pub mod NextSteps
+pub mod Reached
+pub mod Wholes
+pub mod Choices
+pub mod Books
+pub mod Turns
+pub mod Ended
+pub mod Safe
+pub mod Found
