@@ -1,0 +1,10 @@
+mod Tables
+mod PutBack
+mod OwnTerms
+mod WholeTables
+mod Alternatives
+mod Scripts
+mod Named
+mod Coming
+mod Opening
+mod Places
