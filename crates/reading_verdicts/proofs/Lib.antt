@@ -1,0 +1,7 @@
+mod SameTypes
+mod Entries
+pub mod Places
+pub mod Arguments
+pub mod Terms
+pub mod Types
+pub mod Verdicts
