@@ -1,0 +1,6 @@
+mod Decisions
+mod Rules
+mod Lists
+mod Formed
+mod Declarations
+pub mod Verdicts
