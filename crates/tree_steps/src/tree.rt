@@ -295,6 +295,13 @@ impl<P: Problem> Tree<P> {
         &self.journal
     }
 
+    /// The events of the tree, in order, where nothing else of it is needed any more. It takes no memory.
+    pub fn into_journal(self) -> Journal
+        ensures { result ≡ self.journal }
+    {
+        self.journal
+    }
+
     /// The node that a seat holds, and nothing where it holds none. It takes no memory.
     pub fn held(&self, seat: u32) -> Option<u32>
         ensures kept { result ≡ held_by self.now.held.items seat }
