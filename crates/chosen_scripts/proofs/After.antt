@@ -105,7 +105,7 @@ module _ (sig : LfSignature) (rules : List LfRule) (a : LfType) (proved : Addres
     all_are_moved : All (λ h. moved h.id ≡ wider h.id) (all_goals after)
     all_are_moved = All-weaker (λ h. Contains (ids (all_goals list)) h.id ⊎ (next_id list ≤ h.id)) (λ h. moved h.id ≡ wider h.id) goal_is_moved (all_goals after) entry.old_or_new
 
-    same_classes : classes (inside moved (all_goals after)) ≡ found
+    pub same_classes : classes (inside moved (all_goals after)) ≡ found
     same_classes = ap classes (inside-same moved wider (all_goals after) all_are_moved ∙ sym (all-inside wider after))
 
     abbrev child : ℕ → Address

@@ -52,7 +52,7 @@ module _ (sig : LfSignature) (rules : List LfRule) (a : LfType) (proved : Addres
     abbrev after_first : LfGoal → List LfStep
     after_first g = choose_then (chosen_at sig rules a proved (carried g.id)) (after_choice g)
 
-    one_step : (g : LfGoal) (i : ℕ) (alternative : LfAlternative) → first_goal list ≡ Some g → chosen_at sig rules a proved (carried g.id) ≡ Some i →
+    pub one_step : (g : LfGoal) (i : ℕ) (alternative : LfAlternative) → first_goal list ≡ Some g → chosen_at sig rules a proved (carried g.id) ≡ Some i →
         slice_get (alternatives_of sig rules list) i ≡ Some alternative → chosen_from sig rules a proved (suc most) list carried ≡ step_of alternative ∷ after_alternative g i alternative
     one_step g i alternative first chosen there =
         ap (λ o. first_then o after_first) first ∙ (ap (λ o. choose_then o (after_choice g)) chosen ∙ ap (λ o. step_then o (after_alternative g i)) there)
@@ -60,7 +60,7 @@ module _ (sig : LfSignature) (rules : List LfRule) (a : LfType) (proved : Addres
     no_step : first_goal list ≡ None → chosen_from sig rules a proved (suc most) list carried ≡ []
     no_step none = ap (λ o. first_then o after_first) none
 
-  none_chosen : (most : ℕ) (list : LfGoals) (carried : ℕ → Address) → first_goal list ≡ None → chosen_from sig rules a proved most list carried ≡ []
+  pub none_chosen : (most : ℕ) (list : LfGoals) (carried : ℕ → Address) → first_goal list ≡ None → chosen_from sig rules a proved most list carried ≡ []
   none_chosen zero list carried none = refl
   none_chosen (suc most) list carried none = no_step most list carried none
 
@@ -165,7 +165,7 @@ nothing_above above step e =
     let more = length-append above (step ∷ []) in
     absurd (omega (arith, size, more))
 
-opening_spent : (committed : List Address) (goals : List LfGoal) → IsSpent committed [] (length committed) (λ m. []) goals
+pub opening_spent : (committed : List Address) (goals : List LfGoal) → IsSpent committed [] (length committed) (λ m. []) goals
 opening_spent committed goals = record {
   differ = no_pairs (λ (p : Address) q. p ≢ q);
   among = λ u there. absurd (nothing_contained u there);
@@ -175,7 +175,7 @@ opening_spent committed goals = record {
   below = λ h there above step e. absurd (nothing_above above step e);
 }
 
-opening_carried : (sig : LfSignature) (rules : List LfRule) (a : LfType) (proved : Address → Bool) → IsTheorem sig rules a → proved [] ≡ true → IsCarried sig rules a proved (opening a) (λ m. [])
+pub opening_carried : (sig : LfSignature) (rules : List LfRule) (a : LfType) (proved : Address → Bool) → IsTheorem sig rules a → proved [] ≡ true → IsCarried sig rules a proved (opening a) (λ m. [])
 opening_carried sig rules a proved theorem root = record {
   may = (opening_is_node sig rules a theorem).0;
   mention = λ h has m o. refl;
