@@ -1,0 +1,4 @@
+pub mod Committed
+pub mod Proved
+pub mod Settled
+pub mod Laws

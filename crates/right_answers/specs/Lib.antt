@@ -1,0 +1,4 @@
+pub mod Blocks
+pub mod Right
+pub mod Settled
+pub mod Laws
