@@ -1,0 +1,5 @@
+pub mod Nodes
+pub mod Branches
+pub mod Agreement
+pub mod Steps
+pub mod Laws
