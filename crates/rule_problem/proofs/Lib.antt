@@ -1,0 +1,5 @@
+pub mod BookRules
+pub mod DifferentNumbers
+pub mod Percentages
+pub mod Branches
+pub mod BookLaws
