@@ -1,0 +1,5 @@
+mod Insides
+mod Given
+mod Moving
+mod Ways
+mod Theorems
