@@ -1,0 +1,4 @@
+pub mod PrintableTerms
+pub mod NamedRules
+pub mod NamedSteps
+pub mod WritableBlocks
