@@ -1,66 +1,94 @@
 -- From what was written to the answer of a status.
-use Rattle.std.proofs.Common.{◌≡◌, ℕ, List, ◌++◌, refl, sym, subst, ◌∙◌, Option, ◌⊎◌, inl, inr, [], ◌∷◌, append_assoc, false, true}
-use Rattle.std.specs.Prelude.{IsTrue, ◌↔◌}
+use Rattle.std.proofs.Common.{◌≡◌, ℕ, List, ◌++◌, sym, subst, Option, append_assoc, Bool, true, false}
+use Rattle.std.specs.Prelude.{if◌then◌else◌}
+use Rattle.std.specs.List.{list_any}
+use Rattle.std.specs.Io.KnownBytes.{Appends}
 use Rattle.run_io.specs.Moves.{TakesAtMost}
-use Rattle.small_programs.specs.declared.small.SmallProgram.{SmallProgram}
+use Rattle.file_elab.specs.Theorems.{LfTheorem}
+use Rattle.file_elab.specs.Programs.{LfProgram}
+use Rattle.goal_book.specs.GoalBooks.{LfBook}
+use Rattle.right_answers.specs.Blocks.{LfBlock}
 use Rattle.aesop_session.specs.declared.status.Status.{Status}
-use Rattle.aesop_session.specs.declared.status.Status.TheVariants.{AllProved, SomeStuck, ReadFault, WriteFault}
+use Rattle.aesop_session.specs.declared.status.Status.TheVariants.{AllProved, SomeStuck, SomeSpent, FileRefused, Usage, TooLong, ReadFault, WriteFault, NoMemory, AnswersRefused}
 use Rattle.aesop_session.specs.declared.refusal.Refusal.{Refusal}
-use Rattle.aesop_session.specs.Commands.{prove_words}
-use Rattle.aesop_session.specs.Documents.{Verdict, proved, stuck, status_of, IsDocument, WritesDocument, WritesDocumentPrefix}
+use Rattle.aesop_session.specs.Commands.{LfOptions, IsProve}
+use Rattle.aesop_session.specs.Documents.{is_spent, is_stuck, status_of, IsBookOfProgram, IsDocumentBy, WritesDocument, WritesDocumentPrefix}
 use Rattle.aesop_session.specs.Refusals.{line_of}
-use Rattle.aesop_session.specs.Inputs.{TakesSmall, TakesRefused}
+use Rattle.aesop_session.specs.Inputs.{TakesRefused}
 use Rattle.basics.specs.Limits.{most_input}
-use Rattle.aesop_session.specs.Answers.{AnswersFile, RefusesFile, IsWholeAnswer, TakesPrefix, Answered}
+use Rattle.aesop_session.specs.Answers.{TakesProgram, ProvesFile, RefusesFile, IsWholeAnswer, TakesPrefix, Answered}
 
-two_statuses : (verdicts : List Verdict) → (status_of verdicts ≡ AllProved) ⊎ (status_of verdicts ≡ SomeStuck)
-two_statuses [] = inl refl
-two_statuses (proved ∷ verdicts) = two_statuses verdicts
-two_statuses (stuck ∷ verdicts) = inr refl
+-- The status is one of a document.
+abbrev IsOfDocument : Status → Type 0
+IsOfDocument AllProved = Unit {0}
+IsOfDocument SomeStuck = Unit {0}
+IsOfDocument SomeSpent = Unit {0}
+IsOfDocument _ = ⊥
 
--- the status of a document is one of two
-pub IsDocument-status : (program : SmallProgram) (status : Status) (text : List ℕ) → IsDocument program status text → (status ≡ AllProved) ⊎ (status ≡ SomeStuck)
-IsDocument-status program status text d =
-    elim (two_statuses d.verdicts) [
-      | inl all ↦ inl (d.status_is ∙ all)
-      | inr some ↦ inr (d.status_is ∙ some)
-    ]
+one_of_three : (spent stuck : Bool) (status : Status) → status ≡ (if spent then SomeSpent else (if stuck then SomeStuck else AllProved)) → IsOfDocument status
+one_of_three true stuck status is = subst IsOfDocument (sym is) tt
+one_of_three false true status is = subst IsOfDocument (sym is) tt
+one_of_three false false status is = subst IsOfDocument (sym is) tt
 
-answer_of : (left later : Option (List ℕ)) (small : SmallProgram) (status : Status) (text : List ℕ) → TakesSmall left later small → IsDocument small status text → AnswersFile left later status text
-answer_of left later small status text takes d = record {
-  program = takes.0;
-  taken = takes.1;
-  document = subst (λ program. IsDocument program status text) takes.2 d;
-}
+of_blocks : (blocks : List LfBlock) (status : Status) → status ≡ status_of blocks → IsOfDocument status
+of_blocks blocks status is = one_of_three (list_any (λ (block : LfBlock). is_spent block.verdict) blocks) (list_any (λ (block : LfBlock). is_stuck block.verdict) blocks) status is
 
-is_answer : (left later : Option (List ℕ)) (small : SmallProgram) (status : Status) (text : List ℕ) → TakesSmall left later small → IsDocument small status text → IsWholeAnswer prove_words left later status text
-is_answer left later small status text takes d =
-    elim (IsDocument-status small status text d) [
-      | inl all ↦ subst (λ s. IsWholeAnswer prove_words left later s text) (sym all) (refl, answer_of left later small AllProved text takes (subst (λ s. IsDocument small s text) all d))
-      | inr some ↦ subst (λ s. IsWholeAnswer prove_words left later s text) (sym some) (refl, answer_of left later small SomeStuck text takes (subst (λ s. IsDocument small s text) some d))
-    ]
+-- What an answer to a file is made of: the options of the words, the program of the bytes, and its book.
+pub record Answerable (words : List (List ℕ)) (left later : Option (List ℕ)) (options : LfOptions) (program : LfProgram) (b : LfBook) : Type 0 where
+  pub is_prove : IsProve words options
+  pub taken : TakesProgram left later program
+  pub is_book : IsBookOfProgram program b
 
--- a document that was written whole is the answer of its status
-pub Answered-document : (left later held after : Option (List ℕ)) (small : SmallProgram) (status : Status) → TakesSmall left later small → WritesDocument small held after status → Answered prove_words left later held after status
-Answered-document left later held after small status takes w =
-    elim (IsDocument-status small status w.0 w.1) [
-      | inl all ↦ subst (Answered prove_words left later held after) (sym all) (w.0, subst (λ s. IsWholeAnswer prove_words left later s w.0) all (is_answer left later small status w.0 takes w.1), w.2)
-      | inr some ↦ subst (Answered prove_words left later held after) (sym some) (w.0, subst (λ s. IsWholeAnswer prove_words left later s w.0) some (is_answer left later small status w.0 takes w.1), w.2)
-    ]
+module _ (words : List (List ℕ)) (left later : Option (List ℕ)) (options : LfOptions) (program : LfProgram) (b : LfBook) (is : Answerable words left later options program b) where
+  proves_file : (status : Status) (text : List ℕ) → IsDocumentBy b options program.theorems status text → ProvesFile words left later status text
+  proves_file status text d = (options, is.is_prove, record { program = program; taken = is.taken; document = record { b = b; is_book = is.is_book; by_book = d } })
 
--- a prefix of a document is a prefix of the answer of its status
-pub TakesPrefix-document : (left later held after : Option (List ℕ)) (small : SmallProgram) → TakesSmall left later small → WritesDocumentPrefix small held after → TakesPrefix prove_words left later held after
-TakesPrefix-document left later held after small takes w = (w.0, w.1, is_answer left later small w.0 w.1 takes w.2, w.3)
+  whole_answer : (status : Status) (text : List ℕ) → IsOfDocument status → ProvesFile words left later status text → IsWholeAnswer words left later status text
+  whole_answer AllProved text of p = p
+  whole_answer SomeStuck text of p = p
+  whole_answer SomeSpent text of p = p
+  whole_answer FileRefused text of p = absurd of
+  whole_answer Usage text of p = absurd of
+  whole_answer TooLong text of p = absurd of
+  whole_answer ReadFault text of p = absurd of
+  whole_answer WriteFault text of p = absurd of
+  whole_answer NoMemory text of p = absurd of
+  whole_answer AnswersRefused text of p = absurd of
 
-pub not_read_fault : (held after : Option (List ℕ)) (small : SmallProgram) (status : Status) → WritesDocument small held after status → status ≡ ReadFault → ⊥
-not_read_fault held after small status w e = elim (IsDocument-status small status w.0 w.1) [ inl all ↦ cc | inr some ↦ cc ]
+  is_answer : (status : Status) (text : List ℕ) → IsDocumentBy b options program.theorems status text → IsWholeAnswer words left later status text
+  is_answer status text d = whole_answer status text (of_blocks d.blocks status d.status_is) (proves_file status text d)
 
-pub not_write_fault : (held after : Option (List ℕ)) (small : SmallProgram) (status : Status) → WritesDocument small held after status → status ≡ WriteFault → ⊥
-not_write_fault held after small status w e = elim (IsDocument-status small status w.0 w.1) [ inl all ↦ cc | inr some ↦ cc ]
+  module _ (held after : Option (List ℕ)) where
+    answered_by : (status : Status) → IsOfDocument status → ((text : List ℕ) × IsWholeAnswer words left later status text × Appends held after text) → Answered words left later held after status
+    answered_by AllProved of a = a
+    answered_by SomeStuck of a = a
+    answered_by SomeSpent of a = a
+    answered_by FileRefused of a = absurd of
+    answered_by Usage of a = absurd of
+    answered_by TooLong of a = absurd of
+    answered_by ReadFault of a = absurd of
+    answered_by WriteFault of a = absurd of
+    answered_by NoMemory of a = absurd of
+    answered_by AnswersRefused of a = absurd of
 
--- where a document is begun, what was read is at most the limit
-pub TakesSmall-at_most : (left later : Option (List ℕ)) (small : SmallProgram) → TakesSmall left later small → TakesAtMost most_input left later
-TakesSmall-at_most left later small takes = (takes.1.0, takes.1.2, takes.1.1.0)
+    -- a document that was written whole is the answer of its status
+    pub Answered-document : (status : Status) → WritesDocument b options program.theorems held after status → Answered words left later held after status
+    Answered-document status w = answered_by status (of_blocks w.1.blocks status w.1.status_is) (w.0, is_answer status w.0 w.1, w.2)
+
+    -- a prefix of a document is a prefix of the answer of its status
+    pub TakesPrefix-document : WritesDocumentPrefix b options program.theorems held after → TakesPrefix words left later held after
+    TakesPrefix-document w = (w.0, w.1, is_answer w.0 w.1 w.2, w.3)
+
+-- the status of a document is no fault
+pub not_read_fault : (b : LfBook) (options : LfOptions) (theorems : List LfTheorem) (held after : Option (List ℕ)) (status : Status) → WritesDocument b options theorems held after status → status ≡ ReadFault → ⊥
+not_read_fault b options theorems held after status w e = subst IsOfDocument e (of_blocks w.1.blocks status w.1.status_is)
+
+pub not_write_fault : (b : LfBook) (options : LfOptions) (theorems : List LfTheorem) (held after : Option (List ℕ)) (status : Status) → WritesDocument b options theorems held after status → status ≡ WriteFault → ⊥
+not_write_fault b options theorems held after status w e = subst IsOfDocument e (of_blocks w.1.blocks status w.1.status_is)
+
+-- where a document is begun or refused, what was read is at most the limit
+pub TakesProgram-at_most : (left later : Option (List ℕ)) (program : LfProgram) → TakesProgram left later program → TakesAtMost most_input left later
+TakesProgram-at_most left later program takes = (takes.0, takes.2, takes.1.0)
 
 pub TakesRefused-at_most : (left later : Option (List ℕ)) (refusal : Refusal) → TakesRefused left later refusal → TakesAtMost most_input left later
 TakesRefused-at_most left later refusal takes = (takes.0, takes.2, takes.1.0)
@@ -73,6 +101,3 @@ RefusesFile-line left later refusal text takes e =
 -- the pieces of the line, one after another
 pub line_parts : (start place colon word end : List ℕ) → start ++ (place ++ (colon ++ (word ++ end))) ≡ start ++ place ++ colon ++ (word ++ end)
 line_parts start place colon word end = simp append_assoc
-
-pub refuted : {P : Type 0} → (IsTrue false ↔ P) → P → ⊥
-refuted e p = let clash : false ≡ true = e.1 p in cc

@@ -1,18 +1,27 @@
--- What was written of a right document is a prefix of one: what is left to write is always there.
-use Rattle.std.proofs.Common.{◌≡◌, ℕ, ◌+◌, ◌<◌, List, [], ◌∷◌, ◌++◌, length, refl, sym, subst, ap, ◌∙◌, Some, None, Option, get_or, append_assoc, append-nil, Bool, true, false, cond, take, drop}
+-- What was written of a document is a prefix of one: what is left to write is always there.
+use Rattle.std.proofs.Common.{◌≡◌, ℕ, ◌<◌, ◌+◌, List, [], ◌∷◌, ◌++◌, length, refl, sym, subst, ap, ◌∙◌, Option, append_assoc, append-nil, Bool, true, false, get_or, take, drop}
+use Rattle.std.specs.Prelude.{map, All, if◌then◌else◌, ◌||◌}
+use Rattle.std.specs.List.{list_any}
 use Rattle.std.specs.Io.KnownBytes.{Appends}
 use Rattle.std.proofs.KnownBytes.{Appends-nil, Appends-trans}
-use Rattle.std.proofs.lemmas.List.{take_more, take-append-drop}
+use Rattle.std.proofs.Math.ListN.{get_or-map, length-map}
+use Rattle.std.proofs.lemmas.List.{map-append, take_more, take-append-drop}
+use Rattle.std.proofs.lemmas.List.Concat.{flat_map-append}
+use Rattle.std.proofs.lemmas.List.Elements.{All-head, All-tail}
+use Rattle.std.proofs.lemmas.List.Folds.{list_any-append}
 use Rattle.run_io.specs.Moves.{AppendsPrefix}
-use Rattle.small_programs.specs.declared.small.SmallProgram.{SmallProgram}
-use Rattle.small_programs.specs.declared.small.SmallTheorem.{SmallTheorem}
+use Rattle.lf_definitions.specs.Typing.{Formed}
+use Rattle.lf_definitions.specs.Signatures.{LfSignature, kinds_in, typing_in}
+use Rattle.file_elab.specs.declared.theorem.Theorem.{Theorem}
+use Rattle.file_elab.specs.ProgramViews.{theorem_of}
+use Rattle.file_elab.specs.Theorems.{LfTheorem, AreFormed}
+use Rattle.goal_book.specs.GoalBooks.{LfBook}
+use Rattle.right_answers.specs.Blocks.{LfBlock}
+use Rattle.answer_text.specs.Texts.{block_text}
 use Rattle.aesop_session.specs.declared.status.Status.{Status}
-use Rattle.aesop_session.specs.declared.status.Status.TheVariants.{AllProved, SomeStuck}
-use Rattle.small_search.specs.declared.closing.Closing.{Closing}
-use Rattle.small_search.specs.Closings.{Closings, closing_of, IsTable}
-use Rattle.aesop_session.specs.Documents.{Verdict, proved, stuck, verdict_of, stuck_text, IsBlock, AreBlocks, nothing, next, status_of, first_line, last_line, WritesBlock, WritesBlockPrefix, WritesBlocks, WritesBlocksPrefix, WritesDocument, WritesDocumentPrefix}
-use Rattle.small_answers.proofs.TableTerms.{GivesTerm-closed}
-use Rattle.aesop_session.proofs.Blocks.{proved_block, stuck_block}
+use Rattle.aesop_session.specs.declared.status.Status.TheVariants.{AllProved, SomeStuck, SomeSpent}
+use Rattle.aesop_session.specs.Commands.{LfOptions}
+use Rattle.aesop_session.specs.Documents.{first_line, last_line, blocks_text, is_spent, is_stuck, status_of, AnswerTheorems, no_theorem, one_theorem, IsBlockText, WritesBlocks, WritesBlocksPrefix, WritesDocument, WritesDocumentPrefix, HasAnswers}
 
 -- ---- prefixes
 
@@ -27,116 +36,177 @@ pub AppendsPrefix-after : (held middle after : Option (List ℕ)) (done text : L
 AppendsPrefix-after held middle after done text a f =
     (done ++ f.0, (f.1.0, append_assoc done f.0 f.1.0 ∙ ap (λ (t : List ℕ). done ++ t) f.1.1), Appends-trans held middle after done f.0 a f.2)
 
--- ---- blocks that are left to write
+-- ---- the status of more blocks
 
-block_at : (program : SmallProgram) (table : Closings) (theorem : SmallTheorem) → IsTable program table → (found : Option Closing) → closing_of table.by_family theorem.family ≡ found → (verdict : Verdict) × (text : List ℕ) × IsBlock program theorem verdict text
-block_at program table theorem is_table (Some closing) found =
-    let given = GivesTerm-closed program table.by_family table.order is_table.closings theorem.family closing found in
-    let block = proved_block program theorem table.by_family given.0 given.1 given.2 in
-    (proved, block.0, block.1)
-block_at program table theorem is_table None found = (stuck, stuck_text theorem.name, stuck_block program theorem table is_table found)
+status_by_tests : Bool → Bool → Status
+status_by_tests spent stuck = if spent then SomeSpent else (if stuck then SomeStuck else AllProved)
 
--- each theorem has a right block
-pub right_block : (program : SmallProgram) (table : Closings) (theorem : SmallTheorem) → IsTable program table → (verdict : Verdict) × (text : List ℕ) × IsBlock program theorem verdict text
-right_block program table theorem is_table = block_at program table theorem is_table (closing_of table.by_family theorem.family) refl
+-- the status of some blocks and others by what is true of either
+abbrev pub joined : Status → Status → Status
+joined SomeSpent more = SomeSpent
+joined SomeStuck SomeSpent = SomeSpent
+joined SomeStuck _ = SomeStuck
+joined _ more = more
 
--- theorems have right blocks
-pub right_blocks : (program : SmallProgram) (table : Closings) (theorems : List SmallTheorem) → IsTable program table → (verdicts : List Verdict) × (blocks : List ℕ) × AreBlocks program theorems verdicts blocks
-right_blocks program table [] is_table = ([], [], nothing)
-right_blocks program table (theorem ∷ theorems) is_table =
-    let block = right_block program table theorem is_table in
-    let blocks = right_blocks program table theorems is_table in
-    (block.0 ∷ blocks.0, block.1 ++ blocks.1, next theorem theorems block.0 blocks.0 block.1 blocks.1 (block.1 ++ blocks.1) block.2 blocks.2 refl)
+joined-tests : (a b c d : Bool) → joined (status_by_tests a b) (status_by_tests c d) ≡ status_by_tests (a || c) (b || d)
+unfolding status_by_tests
+joined-tests true b c d = refl
+joined-tests false true true d = refl
+joined-tests false true false true = refl
+joined-tests false true false false = refl
+joined-tests false false c d = refl
 
--- right blocks one after another are right blocks
-pub AreBlocks-append : (program : SmallProgram) (ts us : List SmallTheorem) (vs ws : List Verdict) (a b : List ℕ) → AreBlocks program ts vs a → AreBlocks program us ws b → AreBlocks program (ts ++ us) (vs ++ ws) (a ++ b)
-AreBlocks-append program ts us vs ws a b nothing more = more
-AreBlocks-append program ts us vs ws a b (next t ts' v vs' block blocks _ is rest parts) more =
-    next t (ts' ++ us) v (vs' ++ ws) block (blocks ++ b) (a ++ b) is (AreBlocks-append program ts' us vs' ws blocks b rest more)
-    (ap (λ (x : List ℕ). x ++ b) parts ∙ append_assoc block blocks b)
+pub status_of-append : (blocks others : List LfBlock) → joined (status_of blocks) (status_of others) ≡ status_of (blocks ++ others)
+unfolding status_by_tests
+status_of-append blocks others =
+    let spent = λ (block : LfBlock). is_spent block.verdict in
+    let stuck = λ (block : LfBlock). is_stuck block.verdict in
+    joined-tests (list_any spent blocks) (list_any stuck blocks) (list_any spent others) (list_any stuck others)
+    ∙ ap (λ test. status_by_tests test (list_any stuck blocks || list_any stuck others)) (sym (list_any-append spent blocks others))
+    ∙ ap (λ test. status_by_tests (list_any spent (blocks ++ others)) test) (sym (list_any-append stuck blocks others))
 
-pub AreBlocks-one : (program : SmallProgram) (t : SmallTheorem) (v : Verdict) (text : List ℕ) → IsBlock program t v text → AreBlocks program (t ∷ []) (v ∷ []) text
-AreBlocks-one program t v text is = next t [] v [] text [] text is nothing (sym (append-nil text))
+-- what of a list is left fits too
+All-rest_of : {X : Type 0} (P : X → Type 0) (xs ys : List X) → All P (xs ++ ys) → All P ys
+All-rest_of P [] ys all = all
+All-rest_of P (x ∷ xs) ys all = All-rest_of P xs ys (All-tail P x (xs ++ ys) all)
 
--- the status after one more verdict
-pub status_of-push : (vs : List Verdict) (is_proved : Bool) → cond is_proved (status_of vs) SomeStuck ≡ status_of (vs ++ verdict_of is_proved ∷ [])
-status_of-push [] true = refl
-status_of-push [] false = refl
-status_of-push (proved ∷ vs) is_proved = status_of-push vs is_proved
-status_of-push (stuck ∷ vs) true = refl
-status_of-push (stuck ∷ vs) false = refl
+module _ (b : LfBook) (options : LfOptions) where
+  -- ---- blocks
 
--- ---- the loop over the theorems
+  -- answers one after another are answers
+  answers-append : (ts us : List LfTheorem) (xs ys : List LfBlock) → AnswerTheorems b options ts xs → AnswerTheorems b options us ys → AnswerTheorems b options (ts ++ us) (xs ++ ys)
+  answers-append ts us xs ys no_theorem more = more
+  answers-append ts us xs ys (one_theorem t ts' x xs' is rest) more = one_theorem t (ts' ++ us) x (xs' ++ ys) is (answers-append ts' us xs' ys rest more)
 
-pub WritesBlocks-nothing : (program : SmallProgram) (held : Option (List ℕ)) → WritesBlocks program [] held held AllProved
-WritesBlocks-nothing program held = record { verdicts = []; blocks = []; are_blocks = nothing; status_is = refl; taken = Appends-nil held }
+  -- well-formed theorems have answers
+  answers_exist : HasAnswers b → (ts : List LfTheorem) → AreFormed b.sig ts → (blocks : List LfBlock) × AnswerTheorems b options ts blocks
+  answers_exist answers [] formed = ([], no_theorem)
+  answers_exist answers (t ∷ ts) formed =
+      let P : LfTheorem → Type 0 = λ theorem. Formed (kinds_in b.sig) (typing_in b.sig [] []) theorem.type in
+      let block = answers options t (All-head P t ts formed) in
+      let rest = answers_exist answers ts (All-tail P t ts formed) in
+      (block.0 ∷ rest.0, one_theorem t ts block.0 rest.0 block.1 rest.1)
 
--- one more block
-pub WritesBlocks-push : (program : SmallProgram) (ts : List SmallTheorem) (t : SmallTheorem) (held middle after : Option (List ℕ)) (status more : Status) (is_proved : Bool) →
-    WritesBlocks program ts held middle status → WritesBlock program t middle after is_proved → more ≡ cond is_proved status SomeStuck → WritesBlocks program (ts ++ t ∷ []) held after more
-WritesBlocks-push program ts t held middle after status more is_proved w b is = record {
-  verdicts = w.verdicts ++ verdict_of is_proved ∷ [];
-  blocks = w.blocks ++ b.0;
-  are_blocks = AreBlocks-append program ts (t ∷ []) w.verdicts (verdict_of is_proved ∷ []) w.blocks b.0 w.are_blocks (AreBlocks-one program t (verdict_of is_proved) b.0 b.1);
-  status_is = is ∙ ap (λ s. cond is_proved s SomeStuck) w.status_is ∙ status_of-push w.verdicts is_proved;
-  taken = Appends-trans held middle after w.blocks b.0 w.taken b.2;
-}
+  blocks_text-append : (xs ys : List LfBlock) → blocks_text b xs ++ blocks_text b ys ≡ blocks_text b (xs ++ ys)
+  blocks_text-append xs ys = sym (flat_map-append (block_text b.sig b.book) xs ys)
 
--- a prefix of one more block is a prefix of all of them
-pub WritesBlocksPrefix-at : (program : SmallProgram) (table : Closings) (ts us all : List SmallTheorem) (t : SmallTheorem) (held middle after : Option (List ℕ)) (status : Status) →
-    IsTable program table → (ts ++ t ∷ []) ++ us ≡ all →
-    WritesBlocks program ts held middle status → WritesBlockPrefix program t middle after → WritesBlocksPrefix program all held after
-WritesBlocksPrefix-at program table ts us all t held middle after status is_table parts w f =
-    let rest = right_blocks program table us is_table in
-    let so_far = AreBlocks-append program ts (t ∷ []) w.verdicts (f.0 ∷ []) w.blocks f.1 w.are_blocks (AreBlocks-one program t f.0 f.1 f.2) in (
-      (w.verdicts ++ f.0 ∷ []) ++ rest.0,
-      (w.blocks ++ f.1) ++ rest.1,
-      subst (λ theorems. AreBlocks program theorems ((w.verdicts ++ f.0 ∷ []) ++ rest.0) ((w.blocks ++ f.1) ++ rest.1)) parts
-          (AreBlocks-append program (ts ++ t ∷ []) us (w.verdicts ++ f.0 ∷ []) rest.0 (w.blocks ++ f.1) rest.1 so_far rest.2),
-      AppendsPrefix-more held after (w.blocks ++ f.1) rest.1 (AppendsPrefix-after held middle after w.blocks f.1 w.taken f.3),
+  -- ---- one theorem
+
+  -- the block of a theorem that was written whole
+  pub WritesBlocks-one : (t : LfTheorem) (held after : Option (List ℕ)) (status : Status) (text : List ℕ) → IsBlockText b options t status text → Appends held after text → WritesBlocks b options (t ∷ []) held after status
+  WritesBlocks-one t held after status text is taken = record {
+    blocks = is.0 ∷ [];
+    answers = one_theorem t [] is.0 [] is.1 no_theorem;
+    status_is = is.2;
+    taken = subst (Appends held after) (is.3 ∙ sym (append-nil (block_text b.sig b.book is.0))) taken;
+  }
+
+  -- a prefix of it
+  pub WritesBlocksPrefix-one : (t : LfTheorem) (held after : Option (List ℕ)) (status : Status) (text : List ℕ) → IsBlockText b options t status text → AppendsPrefix held after text → WritesBlocksPrefix b options (t ∷ []) held after
+  WritesBlocksPrefix-one t held after status text is taken = record {
+    first = t ∷ [];
+    rest = [];
+    parts = refl;
+    blocks = is.0 ∷ [];
+    answers = one_theorem t [] is.0 [] is.1 no_theorem;
+    taken = subst (AppendsPrefix held after) (is.3 ∙ sym (append-nil (block_text b.sig b.book is.0))) taken;
+  }
+
+  -- and nothing of it
+  pub WritesBlocksPrefix-none : (ts : List LfTheorem) (held : Option (List ℕ)) → WritesBlocksPrefix b options ts held held
+  WritesBlocksPrefix-none ts held = record { first = []; rest = ts; parts = refl; blocks = []; answers = no_theorem; taken = AppendsPrefix-nothing held [] }
+
+  -- ---- theorems in order
+
+  pub WritesBlocks-none : (held : Option (List ℕ)) → WritesBlocks b options [] held held AllProved
+  WritesBlocks-none held = record { blocks = []; answers = no_theorem; status_is = refl; taken = Appends-nil held }
+
+  pub WritesBlocks-append : (ts us : List LfTheorem) (held middle after : Option (List ℕ)) (status more both : Status) → WritesBlocks b options ts held middle status → WritesBlocks b options us middle after more →
+      ((blocks others : List LfBlock) → status ≡ status_of blocks → more ≡ status_of others → both ≡ status_of (blocks ++ others)) → WritesBlocks b options (ts ++ us) held after both
+  WritesBlocks-append ts us held middle after status more both w v is = record {
+    blocks = w.blocks ++ v.blocks;
+    answers = answers-append ts us w.blocks v.blocks w.answers v.answers;
+    status_is = is w.blocks v.blocks w.status_is v.status_is;
+    taken = subst (Appends held after) (blocks_text-append w.blocks v.blocks) (Appends-trans held middle after (blocks_text b w.blocks) (blocks_text b v.blocks) w.taken v.taken);
+  }
+
+  pub WritesBlocksPrefix-append : (ts us rest all : List LfTheorem) (held middle after : Option (List ℕ)) (status : Status) → all ≡ ts ++ us ++ rest → WritesBlocks b options ts held middle status →
+      WritesBlocksPrefix b options us middle after → WritesBlocksPrefix b options all held after
+  WritesBlocksPrefix-append ts us rest all held middle after status parts w f = record {
+    first = ts ++ f.first;
+    rest = f.rest ++ rest;
+    parts = parts ∙ ap (λ (xs : List LfTheorem). ts ++ xs ++ rest) f.parts ∙ simp append_assoc;
+    blocks = w.blocks ++ f.blocks;
+    answers = answers-append ts f.first w.blocks f.blocks w.answers f.answers;
+    taken = subst (AppendsPrefix held after) (blocks_text-append w.blocks f.blocks)
+        (AppendsPrefix-after held middle after (blocks_text b w.blocks) (blocks_text b f.blocks) w.taken f.taken);
+  }
+
+  -- ---- whole documents
+
+  module _ (ts : List LfTheorem) (held : Option (List ℕ)) where
+    pub WritesDocument-whole : (first middle after : Option (List ℕ)) (status : Status) → Appends held first (first_line options.budget) → WritesBlocks b options ts first middle status →
+        Appends middle after last_line → WritesDocument b options ts held after status
+    WritesDocument-whole first middle after status a w z = (
+      first_line options.budget ++ blocks_text b w.blocks ++ last_line,
+      record { blocks = w.blocks; answers = w.answers; text_is = refl; status_is = w.status_is },
+      Appends-trans held middle after (first_line options.budget ++ blocks_text b w.blocks) last_line
+          (Appends-trans held first middle (first_line options.budget) (blocks_text b w.blocks) a w.taken) z,
     )
 
--- the list up to a place, one more, and the rest
-pub parts_at : {A : Type 0} (xs ys : List A) (i : ℕ) (x : A) → xs ≡ ys → i < length xs → x ≡ get_or xs i x → (take i xs ++ x ∷ []) ++ drop (i + 1) xs ≡ ys
-parts_at {A = A} xs ys i x same within is =
-    ap (λ y. (take i xs ++ y ∷ []) ++ drop (i + 1) xs) is
-    ∙ ap (λ (zs : List A). zs ++ drop (i + 1) xs) (sym (take_more xs i x within))
-    ∙ take-append-drop (i + 1) xs ∙ same
-
--- ---- whole documents
-
-pub WritesDocument-whole : (program : SmallProgram) (held first middle after : Option (List ℕ)) (status : Status) →
-    Appends held first first_line → WritesBlocks program program.theorems first middle status → Appends middle after last_line → WritesDocument program held after status
-WritesDocument-whole program held first middle after status a w z = (
-  (first_line ++ w.blocks) ++ last_line,
-  record { verdicts = w.verdicts; blocks = w.blocks; are_blocks = w.are_blocks; text_is = refl; status_is = w.status_is },
-  Appends-trans held middle after (first_line ++ w.blocks) last_line (Appends-trans held first middle first_line w.blocks a w.taken) z,
-)
-
-pub WritesDocumentPrefix-first : (program : SmallProgram) (table : Closings) (held after : Option (List ℕ)) → IsTable program table →
-    AppendsPrefix held after first_line → WritesDocumentPrefix program held after
-WritesDocumentPrefix-first program table held after is_table f =
-    let blocks = right_blocks program table program.theorems is_table in (
-      status_of blocks.0,
-      (first_line ++ blocks.1) ++ last_line,
-      record { verdicts = blocks.0; blocks = blocks.1; are_blocks = blocks.2; text_is = refl; status_is = refl },
-      AppendsPrefix-more held after (first_line ++ blocks.1) last_line (AppendsPrefix-more held after first_line blocks.1 f),
+    pub WritesDocumentPrefix-last : (first middle after : Option (List ℕ)) (status : Status) → Appends held first (first_line options.budget) → WritesBlocks b options ts first middle status →
+        AppendsPrefix middle after last_line → WritesDocumentPrefix b options ts held after
+    WritesDocumentPrefix-last first middle after status a w z = (
+      status,
+      first_line options.budget ++ blocks_text b w.blocks ++ last_line,
+      record { blocks = w.blocks; answers = w.answers; text_is = refl; status_is = w.status_is },
+      AppendsPrefix-after held middle after (first_line options.budget ++ blocks_text b w.blocks) last_line
+          (Appends-trans held first middle (first_line options.budget) (blocks_text b w.blocks) a w.taken) z,
     )
 
-pub WritesDocumentPrefix-blocks : (program : SmallProgram) (held first after : Option (List ℕ)) →
-    Appends held first first_line → WritesBlocksPrefix program program.theorems first after → WritesDocumentPrefix program held after
-WritesDocumentPrefix-blocks program held first after a f = (
-  status_of f.0,
-  (first_line ++ f.1) ++ last_line,
-  record { verdicts = f.0; blocks = f.1; are_blocks = f.2; text_is = refl; status_is = refl },
-  AppendsPrefix-more held after (first_line ++ f.1) last_line (AppendsPrefix-after held first after first_line f.1 a f.3),
-)
+    -- where the blocks of some theorems are written in part, the others have blocks too
+    pub WritesDocumentPrefix-blocks : HasAnswers b → AreFormed b.sig ts → (first after : Option (List ℕ)) → Appends held first (first_line options.budget) → WritesBlocksPrefix b options ts first after →
+        WritesDocumentPrefix b options ts held after
+    WritesDocumentPrefix-blocks answers formed first after a f =
+        let rest = answers_exist answers f.rest (All-rest_of (λ (theorem : LfTheorem). Formed (kinds_in b.sig) (typing_in b.sig [] []) theorem.type) f.first f.rest (subst (AreFormed b.sig) f.parts formed)) in
+        let done = AppendsPrefix-more first after (blocks_text b f.blocks) (blocks_text b rest.0) f.taken in
+        let blocks = subst (AppendsPrefix first after) (blocks_text-append f.blocks rest.0) done in (
+          status_of (f.blocks ++ rest.0),
+          first_line options.budget ++ blocks_text b (f.blocks ++ rest.0) ++ last_line,
+          record {
+            blocks = f.blocks ++ rest.0;
+            answers = subst (λ (theorems : List LfTheorem). AnswerTheorems b options theorems (f.blocks ++ rest.0)) (sym f.parts) (answers-append f.first f.rest f.blocks rest.0 f.answers rest.1);
+            text_is = refl;
+            status_is = refl;
+          },
+          AppendsPrefix-more held after (first_line options.budget ++ blocks_text b (f.blocks ++ rest.0)) last_line
+              (AppendsPrefix-after held first after (first_line options.budget) (blocks_text b (f.blocks ++ rest.0)) a blocks),
+        )
 
-pub WritesDocumentPrefix-last : (program : SmallProgram) (held first middle after : Option (List ℕ)) (status : Status) →
-    Appends held first first_line → WritesBlocks program program.theorems first middle status → AppendsPrefix middle after last_line → WritesDocumentPrefix program held after
-WritesDocumentPrefix-last program held first middle after status a w z = (
-  status,
-  (first_line ++ w.blocks) ++ last_line,
-  record { verdicts = w.verdicts; blocks = w.blocks; are_blocks = w.are_blocks; text_is = refl; status_is = w.status_is },
-  AppendsPrefix-after held middle after (first_line ++ w.blocks) last_line (Appends-trans held first middle first_line w.blocks a w.taken) z,
-)
+    -- where the first line is written in part, all theorems have blocks
+    pub WritesDocumentPrefix-first : HasAnswers b → AreFormed b.sig ts → (after : Option (List ℕ)) → AppendsPrefix held after (first_line options.budget) → WritesDocumentPrefix b options ts held after
+    WritesDocumentPrefix-first answers formed after f =
+        let blocks = answers_exist answers ts formed in (
+          status_of blocks.0,
+          first_line options.budget ++ blocks_text b blocks.0 ++ last_line,
+          record { blocks = blocks.0; answers = blocks.1; text_is = refl; status_is = refl },
+          AppendsPrefix-more held after (first_line options.budget ++ blocks_text b blocks.0) last_line (AppendsPrefix-more held after (first_line options.budget) (blocks_text b blocks.0) f),
+        )
+
+-- ---- what of a list was passed
+
+pub mapped_more : {A B : Type 0} (f : A → B) (xs : List A) (i : ℕ) (x : A) → i < length xs → x ≡ get_or xs i x → map f (take i xs) ++ f x ∷ [] ≡ map f (take (i + 1) xs)
+mapped_more f xs i x within is =
+    sym (map-append f (take i xs) (x ∷ [])) ∙ ap (map f) (ap (λ y. take i xs ++ y ∷ []) is ∙ sym (take_more xs i x within))
+
+pub mapped_parts : {A B : Type 0} (f : A → B) (xs : List A) (i : ℕ) (x : A) → i < length xs → x ≡ get_or xs i x → map f xs ≡ map f (take i xs) ++ f x ∷ [] ++ map f (drop (i + 1) xs)
+mapped_parts f xs i x within is =
+    ap (map f) (sym (take-append-drop (i + 1) xs)) ∙ map-append f (take (i + 1) xs) (drop (i + 1) xs)
+    ∙ ap (λ ys. ys ++ map f (drop (i + 1) xs)) (sym (mapped_more f xs i x within is))
+
+-- a theorem of a well-formed list has a well-formed type
+pub theorem_formed : (sig : LfSignature) (theorems : List Theorem) (i : ℕ) (x : Theorem) → AreFormed sig (map theorem_of theorems) → i < length theorems → x ≡ get_or theorems i x →
+    Formed (kinds_in sig) (typing_in sig [] []) (theorem_of x).type
+theorem_formed sig theorems i x formed within is =
+    let at = formed i (theorem_of x) (simp length-map within) in
+    subst (λ (theorem : LfTheorem). Formed (kinds_in sig) (typing_in sig [] []) theorem.type) (get_or-map theorem_of theorems i x ∙ ap theorem_of (sym is)) at

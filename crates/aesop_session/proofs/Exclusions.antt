@@ -1,4 +1,4 @@
--- Bytes that are accepted with a small program are refused for nothing, since each pass has one answer.
+-- Bytes that are accepted are refused for nothing, since each pass has one answer.
 use Rattle.std.proofs.Common.{◌≡◌, ℕ, ◌<◌, List, [], ◌∷◌, ◌++◌, length, refl, sym, ap, ◌∙◌, subst, arith, append_assoc, Option, None, Some}
 use Rattle.std.proofs.lemmas.List.{append-nil, map-append, take_at}
 use Rattle.lex_text.specs.declared.token.Token.{Token}
@@ -14,11 +14,10 @@ use Rattle.file_syntax.proofs.Derivations.{run-file}
 use Rattle.elab_terms.specs.declared.elab_fault.ElabFault.{ElabFault}
 use Rattle.elab_terms.specs.declared.elab_fault.ElabFault.TheVariants as faults
 use Rattle.file_elab.specs.Programs.{LfProgram, IsParsedFrom, IsProgram}
-use Rattle.small_forms.specs.Smallness.{IsSmall}
 use Rattle.aesop_session.specs.declared.refusal.RefusalKind.{RefusalKind}
-use Rattle.aesop_session.specs.declared.refusal.RefusalKind.TheVariants.{NotUtf8, BadCharacter, LongName, Expected, TooDeep, Taken, TooMany, Unknown, Redex, IllTyped, BadRule, Unsupported}
+use Rattle.aesop_session.specs.declared.refusal.RefusalKind.TheVariants.{NotUtf8, BadCharacter, LongName, Expected, TooDeep, Taken, TooMany, Unknown, Redex, IllTyped, BadRule}
 use Rattle.aesop_session.specs.Refusals.{IsAccepted, HasFault, RefusesText}
-use Rattle.file_elab.proofs.OneProgram.{one_program_of_file, program_not_refused}
+use Rattle.file_elab.proofs.OneProgram.{program_not_refused}
 
 -- the terminals of tokens of which these come first
 terminals_of-parts : (bytes : List ℕ) (prefix rest tokens : List Token) → tokens ≡ prefix ++ rest → terminals_of bytes tokens ≡ terminals_of bytes prefix ++ terminals_of bytes rest
@@ -67,28 +66,22 @@ IsParsedFrom-unique : (bytes : List ℕ) (declarations other : List DeclTree) �
 IsParsedFrom-unique bytes declarations other h k =
     one_tree bytes k.0 declarations other (subst (λ tokens. IsParsed bytes tokens declarations) (TokensOf-unique bytes h.0 k.0 h.1 k.1) h.2) k.2
 
-pub IsAccepted-unique : (bytes : List ℕ) (program other : LfProgram) → IsAccepted bytes program → IsAccepted bytes other → program ≡ other
-IsAccepted-unique bytes program other h k =
-    one_program_of_file bytes k.0 program other
-    (subst (λ declarations. IsProgram bytes declarations program) (IsParsedFrom-unique bytes h.0 k.0 h.1 k.1) h.2) k.2
-
 IsAccepted-no_fault : (bytes : List ℕ) (program : LfProgram) (fault : ElabFault) → IsAccepted bytes program → HasFault bytes fault → ⊥
 IsAccepted-no_fault bytes program fault h k =
     program_not_refused bytes k.0 program fault
     (subst (λ declarations. IsProgram bytes declarations program) (IsParsedFrom-unique bytes h.0 k.0 h.1 k.1) h.2) k.2
 
-pub IsAccepted-not_refused : (kind : RefusalKind) (bytes : List ℕ) (program : LfProgram) (place : ℕ) → IsAccepted bytes program → IsSmall program → RefusesText bytes place kind → ⊥
-IsAccepted-not_refused NotUtf8 bytes program place h small r = TokensOf-not_not_utf8 bytes h.1.0 place h.1.1 r
-IsAccepted-not_refused BadCharacter bytes program place h small r = TokensOf-not_wrong bytes h.1.0 (bad_character place) h.1.1 r
-IsAccepted-not_refused LongName bytes program place h small r = TokensOf-not_wrong bytes h.1.0 (long_name place) h.1.1 r
-IsAccepted-not_refused Expected bytes program place h small r =
+pub IsAccepted-not_refused : (kind : RefusalKind) (bytes : List ℕ) (program : LfProgram) (place : ℕ) → IsAccepted bytes program → RefusesText bytes place kind → ⊥
+IsAccepted-not_refused NotUtf8 bytes program place h r = TokensOf-not_not_utf8 bytes h.1.0 place h.1.1 r
+IsAccepted-not_refused BadCharacter bytes program place h r = TokensOf-not_wrong bytes h.1.0 (bad_character place) h.1.1 r
+IsAccepted-not_refused LongName bytes program place h r = TokensOf-not_wrong bytes h.1.0 (long_name place) h.1.1 r
+IsAccepted-not_refused Expected bytes program place h r =
     IsParsed-not_expected bytes r.0 (length bytes) place h.0 (subst (λ tokens. IsParsed bytes tokens h.0) (TokensOf-unique bytes h.1.0 r.0 h.1.1 r.1) h.1.2) r.2
-IsAccepted-not_refused TooDeep bytes program place h small r =
+IsAccepted-not_refused TooDeep bytes program place h r =
     IsParsed-not_deep bytes r.0 place h.0 (subst (λ tokens. IsParsed bytes tokens h.0) (TokensOf-unique bytes h.1.0 r.0 h.1.1 r.1) h.1.2) r.2
-IsAccepted-not_refused Taken bytes program place h small r = IsAccepted-no_fault bytes program (faults.Taken place) h r
-IsAccepted-not_refused TooMany bytes program place h small r = IsAccepted-no_fault bytes program (faults.TooMany place) h r
-IsAccepted-not_refused Unknown bytes program place h small r = IsAccepted-no_fault bytes program (faults.Unknown place) h r
-IsAccepted-not_refused Redex bytes program place h small r = IsAccepted-no_fault bytes program (faults.Redex place) h r
-IsAccepted-not_refused IllTyped bytes program place h small r = IsAccepted-no_fault bytes program (faults.IllTyped place) h r
-IsAccepted-not_refused BadRule bytes program place h small r = IsAccepted-no_fault bytes program (faults.BadRule place) h r
-IsAccepted-not_refused Unsupported bytes program place h small r = r.3 (subst IsSmall (IsAccepted-unique bytes program r.1 h r.2) small)
+IsAccepted-not_refused Taken bytes program place h r = IsAccepted-no_fault bytes program (faults.Taken place) h r
+IsAccepted-not_refused TooMany bytes program place h r = IsAccepted-no_fault bytes program (faults.TooMany place) h r
+IsAccepted-not_refused Unknown bytes program place h r = IsAccepted-no_fault bytes program (faults.Unknown place) h r
+IsAccepted-not_refused Redex bytes program place h r = IsAccepted-no_fault bytes program (faults.Redex place) h r
+IsAccepted-not_refused IllTyped bytes program place h r = IsAccepted-no_fault bytes program (faults.IllTyped place) h r
+IsAccepted-not_refused BadRule bytes program place h r = IsAccepted-no_fault bytes program (faults.BadRule place) h r

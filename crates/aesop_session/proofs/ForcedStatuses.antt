@@ -2,14 +2,13 @@
 use Rattle.std.proofs.Common.{◌≡◌, ℕ, ◌<◌, ◌≤◌, List, ◌++◌, length, refl, sym, subst, ap, ◌∙◌, arith, Some, None, Option, append-nil, length-append}
 use Rattle.run_io.specs.Moves.{TakesAll, TakesMoreThan}
 use Rattle.file_elab.specs.Programs.{LfProgram}
-use Rattle.small_forms.specs.Smallness.{IsSmall}
 use Rattle.aesop_session.specs.declared.refusal.RefusalKind.{RefusalKind}
 use Rattle.aesop_session.specs.declared.status.Status.{Status}
 use Rattle.aesop_session.specs.declared.status.Status.TheVariants.{AllProved, SomeStuck, SomeSpent, FileRefused, Usage, TooLong, ReadFault, WriteFault, NoMemory, AnswersRefused}
-use Rattle.aesop_session.specs.Commands.{prove_words}
+use Rattle.aesop_session.specs.Commands.{LfOptions, IsProveCommand}
 use Rattle.aesop_session.specs.Refusals.{IsAccepted, RefusesText}
 use Rattle.basics.specs.Limits.{most_input}
-use Rattle.aesop_session.specs.Answers.{AnswersFile, RefusesFile, Answered, Served, Refused, Overlong, IsStatusFor}
+use Rattle.aesop_session.specs.Answers.{AnswersFile, ProvesFile, RefusesFile, Answered, Served, Refused, Overlong, IsStatusFor}
 use Rattle.aesop_session.proofs.Exclusions.{IsAccepted-not_refused}
 
 -- a source that gave all that it had gave this
@@ -25,18 +24,19 @@ more_taken input (Some rest) h = omega (arith, h.1, ap length h.2, length-append
 record AcceptedInput (input : List ℕ) : Type 0 where
   program : LfProgram
   accepted : IsAccepted input program
-  is_small : IsSmall program
   fits : length input ≤ most_input
 
-answered_input : (input : List ℕ) (later : Option (List ℕ)) (status : Status) (text : List ℕ) → AnswersFile (Some input) later status text → AcceptedInput input
-answered_input input later status text a =
+answered_input : (options : LfOptions) (input : List ℕ) (later : Option (List ℕ)) (status : Status) (text : List ℕ) → AnswersFile options (Some input) later status text → AcceptedInput input
+answered_input options input later status text a =
     let same = all_taken input a.taken.0 later a.taken.1 in
     record {
       program = a.program;
       accepted = subst (λ bytes. IsAccepted bytes a.program) same a.taken.3;
-      is_small = a.taken.4;
       fits = subst (λ bytes. length bytes ≤ most_input) same a.taken.2;
     }
+
+proved_input : (words : List (List ℕ)) (input : List ℕ) (later : Option (List ℕ)) (status : Status) (text : List ℕ) → ProvesFile words (Some input) later status text → AcceptedInput input
+proved_input words input later status text a = answered_input a.0 input later status text a.2
 
 record RefusedInput (input : List ℕ) : Type 0 where
   place : ℕ
@@ -54,68 +54,65 @@ refused_input input later text r =
       fits = subst (λ bytes. length bytes ≤ most_input) same r.2;
     }
 
--- an input that is accepted with a small program gives no reason to refuse it
-small_not_refused : (input : List ℕ) (program : LfProgram) → IsAccepted input program → IsSmall program → RefusedInput input → ⊥
-small_not_refused input program accepted small r = IsAccepted-not_refused r.kind input program r.place accepted small r.refused
-
--- and what is refused has no answer
-refused_not_small : (input : List ℕ) (place : ℕ) (kind : RefusalKind) → RefusesText input place kind → AcceptedInput input → ⊥
-refused_not_small input place kind refused a = IsAccepted-not_refused kind input a.program place a.accepted a.is_small refused
-
-not_overlong : (input : List ℕ) (later : Option (List ℕ)) → length input ≤ most_input → TakesMoreThan most_input (Some input) later → ⊥
-not_overlong input later fits more = omega (arith, fits, more_taken input later more)
-
-small_status : (status : Status) (input : List ℕ) (later held after : Option (List ℕ)) → Answered prove_words (Some input) later held after status →
-    (status ≡ ReadFault → ⊥) → (status ≡ WriteFault → ⊥) →
-    (program : LfProgram) → length input ≤ most_input → IsAccepted input program → IsSmall program → Served status
-small_status AllProved input later held after a no_read no_write program fits accepted small = tt
-small_status SomeStuck input later held after a no_read no_write program fits accepted small = tt
-small_status SomeSpent input later held after a no_read no_write program fits accepted small = a.1
-small_status FileRefused input later held after a no_read no_write program fits accepted small = small_not_refused input program accepted small (refused_input input later a.0 a.1.1)
-small_status Usage input later held after a no_read no_write program fits accepted small = a.1.0 refl
-small_status TooLong input later held after a no_read no_write program fits accepted small = not_overlong input later fits a.1.1
-small_status ReadFault input later held after a no_read no_write program fits accepted small = no_read refl
-small_status WriteFault input later held after a no_read no_write program fits accepted small = no_write refl
-small_status NoMemory input later held after a no_read no_write program fits accepted small = tt
-small_status AnswersRefused input later held after a no_read no_write program fits accepted small = a.1
-
-refused_status : (status : Status) (input : List ℕ) (later held after : Option (List ℕ)) → Answered prove_words (Some input) later held after status →
-    (status ≡ ReadFault → ⊥) → (status ≡ WriteFault → ⊥) →
-    (place : ℕ) (kind : RefusalKind) → length input ≤ most_input → RefusesText input place kind → Refused status
-refused_status AllProved input later held after a no_read no_write place kind fits refused = refused_not_small input place kind refused (answered_input input later AllProved a.0 a.1.1)
-refused_status SomeStuck input later held after a no_read no_write place kind fits refused = refused_not_small input place kind refused (answered_input input later SomeStuck a.0 a.1.1)
-refused_status SomeSpent input later held after a no_read no_write place kind fits refused = a.1
-refused_status FileRefused input later held after a no_read no_write place kind fits refused = tt
-refused_status Usage input later held after a no_read no_write place kind fits refused = a.1.0 refl
-refused_status TooLong input later held after a no_read no_write place kind fits refused = not_overlong input later fits a.1.1
-refused_status ReadFault input later held after a no_read no_write place kind fits refused = no_read refl
-refused_status WriteFault input later held after a no_read no_write place kind fits refused = no_write refl
-refused_status NoMemory input later held after a no_read no_write place kind fits refused = tt
-refused_status AnswersRefused input later held after a no_read no_write place kind fits refused = a.1
+-- what is refused has no answer
+not_both : (input : List ℕ) → AcceptedInput input → RefusedInput input → ⊥
+not_both input a r = IsAccepted-not_refused r.kind input a.program r.place a.accepted r.refused
 
 too_long : (input : List ℕ) → most_input < length input → length input ≤ most_input → ⊥
 too_long input more fits = omega (arith, more, fits)
 
-overlong_status : (status : Status) (input : List ℕ) (later held after : Option (List ℕ)) → Answered prove_words (Some input) later held after status →
-    (status ≡ ReadFault → ⊥) → (status ≡ WriteFault → ⊥) → most_input < length input → Overlong status
-overlong_status AllProved input later held after a no_read no_write more = too_long input more (answered_input input later AllProved a.0 a.1.1).fits
-overlong_status SomeStuck input later held after a no_read no_write more = too_long input more (answered_input input later SomeStuck a.0 a.1.1).fits
-overlong_status SomeSpent input later held after a no_read no_write more = a.1
-overlong_status FileRefused input later held after a no_read no_write more = too_long input more (refused_input input later a.0 a.1.1).fits
-overlong_status Usage input later held after a no_read no_write more = a.1.0 refl
-overlong_status TooLong input later held after a no_read no_write more = tt
-overlong_status ReadFault input later held after a no_read no_write more = no_read refl
-overlong_status WriteFault input later held after a no_read no_write more = no_write refl
-overlong_status NoMemory input later held after a no_read no_write more = tt
-overlong_status AnswersRefused input later held after a no_read no_write more = a.1
+-- Where nothing fails, the words are a command that proves a file and the source had this input.
+record Faultless (words : List (List ℕ)) (input : List ℕ) (later held after : Option (List ℕ)) (status : Status) : Type 0 where
+  command : IsProveCommand words
+  answered : Answered words (Some input) later held after status
+  no_read_fault : status ≡ ReadFault → ⊥
+  no_write_fault : status ≡ WriteFault → ⊥
 
--- where nothing fails the input has its status
-pub Answered-forced : (status : Status) (input : List ℕ) (left later held after : Option (List ℕ)) → left ≡ Some input → Answered prove_words left later held after status →
-    (status ≡ ReadFault → ⊥) → (status ≡ WriteFault → ⊥) → IsStatusFor input status
-Answered-forced status input left later held after tells a no_read no_write =
-    let b = subst (λ l. Answered prove_words l later held after status) tells a in
-    record {
-      small = small_status status input later held after b no_read no_write;
-      refused = refused_status status input later held after b no_read no_write;
-      overlong = overlong_status status input later held after b no_read no_write;
-    }
+module _ (words : List (List ℕ)) (input : List ℕ) (later held after : Option (List ℕ)) where
+  served_status : (status : Status) → Faultless words input later held after status → AcceptedInput input → Served status
+  served_status AllProved f a = tt
+  served_status SomeStuck f a = tt
+  served_status SomeSpent f a = tt
+  served_status FileRefused f a = not_both input a (refused_input input later f.answered.0 f.answered.1.1)
+  served_status Usage f a = f.answered.1.0 f.command
+  served_status TooLong f a = too_long input (more_taken input later f.answered.1.1) a.fits
+  served_status ReadFault f a = f.no_read_fault refl
+  served_status WriteFault f a = f.no_write_fault refl
+  served_status NoMemory f a = tt
+  served_status AnswersRefused f a = f.answered.1
+
+  refused_status : (status : Status) → Faultless words input later held after status → RefusedInput input → Refused status
+  refused_status AllProved f r = not_both input (proved_input words input later AllProved f.answered.0 f.answered.1) r
+  refused_status SomeStuck f r = not_both input (proved_input words input later SomeStuck f.answered.0 f.answered.1) r
+  refused_status SomeSpent f r = not_both input (proved_input words input later SomeSpent f.answered.0 f.answered.1) r
+  refused_status FileRefused f r = tt
+  refused_status Usage f r = f.answered.1.0 f.command
+  refused_status TooLong f r = too_long input (more_taken input later f.answered.1.1) r.fits
+  refused_status ReadFault f r = f.no_read_fault refl
+  refused_status WriteFault f r = f.no_write_fault refl
+  refused_status NoMemory f r = tt
+  refused_status AnswersRefused f r = f.answered.1
+
+  overlong_status : (status : Status) → Faultless words input later held after status → most_input < length input → Overlong status
+  overlong_status AllProved f more = too_long input more (proved_input words input later AllProved f.answered.0 f.answered.1).fits
+  overlong_status SomeStuck f more = too_long input more (proved_input words input later SomeStuck f.answered.0 f.answered.1).fits
+  overlong_status SomeSpent f more = too_long input more (proved_input words input later SomeSpent f.answered.0 f.answered.1).fits
+  overlong_status FileRefused f more = too_long input more (refused_input input later f.answered.0 f.answered.1.1).fits
+  overlong_status Usage f more = f.answered.1.0 f.command
+  overlong_status TooLong f more = tt
+  overlong_status ReadFault f more = f.no_read_fault refl
+  overlong_status WriteFault f more = f.no_write_fault refl
+  overlong_status NoMemory f more = tt
+  overlong_status AnswersRefused f more = f.answered.1
+
+  -- where nothing fails the input has its status
+  pub Answered-forced : (status : Status) (left : Option (List ℕ)) → IsProveCommand words → left ≡ Some input → Answered words left later held after status →
+      (status ≡ ReadFault → ⊥) → (status ≡ WriteFault → ⊥) → IsStatusFor input status
+  Answered-forced status left command tells answered no_read no_write =
+      let f : Faultless words input later held after status =
+      record { command = command; answered = subst (λ l. Answered words l later held after status) tells answered; no_read_fault = no_read; no_write_fault = no_write } in
+      record {
+        accepted = λ program fits accepted. served_status status f (record { program = program; accepted = accepted; fits = fits });
+        refused = λ place kind fits refused. refused_status status f (record { place = place; kind = kind; refused = refused; fits = fits });
+        overlong = overlong_status status f;
+      }

@@ -1,5 +1,6 @@
-pub mod Blocks
 pub mod Completion
 pub mod Answering
 pub mod Exclusions
 pub mod ForcedStatuses
+mod CommandWords
+mod RuleSets

@@ -4,12 +4,11 @@ use Rattle.std.specs.Io.KnownBytes.{Keeps, Appends}
 use Rattle.basics.specs.Limits.{most_input}
 use Rattle.run_io.specs.Moves.{TakesAll, TakesAtMost, TakesMoreThan, AppendsPrefix}
 use Rattle.file_elab.specs.Programs.{LfProgram}
-use Rattle.small_forms.specs.Smallness.{IsSmall, small_form}
 use Rattle.aesop_session.specs.declared.refusal.RefusalKind.{RefusalKind}
 use Rattle.aesop_session.specs.declared.status.Status.{Status}
-use Rattle.aesop_session.specs.declared.status.Status.TheVariants.{AllProved, SomeStuck, FileRefused, Usage, TooLong, ReadFault, WriteFault, NoMemory}
-use Rattle.aesop_session.specs.Commands.{IsProve}
-use Rattle.small_answers.specs.Texts.{line}
+use Rattle.aesop_session.specs.declared.status.Status.TheVariants.{AllProved, SomeStuck, SomeSpent, FileRefused, Usage, TooLong, ReadFault, WriteFault, NoMemory}
+use Rattle.aesop_session.specs.Commands.{LfOptions, IsProve, IsProveCommand}
+use Rattle.answer_text.specs.Texts.{line}
 use Rattle.aesop_session.specs.Documents.{IsDocument}
 use Rattle.aesop_session.specs.Refusals.{IsAccepted, RefusesText, IsRefusedAs}
 
@@ -19,15 +18,19 @@ usage_line = line (codes "usage: aesop prove [--workers N] [--budget N] [--trace
 abbrev pub too_long_line : List ℕ
 too_long_line = line (codes "refused: input too long")
 
--- What was read is accepted, and its program is this small one.
+-- What was read is accepted, with this program.
 abbrev pub TakesProgram : (left later : Option (List ℕ)) → LfProgram → Type 0
-TakesProgram left later program = (input : List ℕ) × TakesAll left later input × (length input ≤ most_input) × IsAccepted input program × IsSmall program
+TakesProgram left later program = (input : List ℕ) × TakesAll left later input × (length input ≤ most_input) × IsAccepted input program
 
--- What was read is accepted with a small program, and the text is a right document for it.
-pub record AnswersFile (left later : Option (List ℕ)) (status : Status) (text : List ℕ) : Type 0 where
+-- What was read is accepted, and the text is a document for its program.
+pub record AnswersFile (options : LfOptions) (left later : Option (List ℕ)) (status : Status) (text : List ℕ) : Type 0 where
   pub program : LfProgram
   pub taken : TakesProgram left later program
-  pub document : IsDocument (small_form program) status text
+  pub document : IsDocument program options status text
+
+-- The words are the command that proves a file, with some options, and the text is a document for it.
+abbrev pub ProvesFile : List (List ℕ) → (left later : Option (List ℕ)) → Status → (text : List ℕ) → Type 0
+ProvesFile words left later status text = (options : LfOptions) × IsProve words options × AnswersFile options left later status text
 
 -- What was read is refused, and the text is the line that says so.
 abbrev pub RefusesFile : (left later : Option (List ℕ)) → (text : List ℕ) → Type 0
@@ -36,11 +39,12 @@ RefusesFile left later text = (input : List ℕ) × TakesAll left later input ×
 -- The text is the whole answer of this status to the words, where the source had the one left before and has
 -- the other left after.
 abbrev pub IsWholeAnswer : List (List ℕ) → Option (List ℕ) → Option (List ℕ) → Status → List ℕ → Type 0
-IsWholeAnswer words left later AllProved text = IsProve words × AnswersFile left later AllProved text
-IsWholeAnswer words left later SomeStuck text = IsProve words × AnswersFile left later SomeStuck text
-IsWholeAnswer words left later FileRefused text = IsProve words × RefusesFile left later text
-IsWholeAnswer words left later TooLong text = IsProve words × TakesMoreThan most_input left later × (text ≡ too_long_line)
-IsWholeAnswer words left later Usage text = (IsProve words → ⊥) × Keeps left later × (text ≡ usage_line)
+IsWholeAnswer words left later AllProved text = ProvesFile words left later AllProved text
+IsWholeAnswer words left later SomeStuck text = ProvesFile words left later SomeStuck text
+IsWholeAnswer words left later SomeSpent text = ProvesFile words left later SomeSpent text
+IsWholeAnswer words left later FileRefused text = IsProveCommand words × RefusesFile left later text
+IsWholeAnswer words left later TooLong text = IsProveCommand words × TakesMoreThan most_input left later × (text ≡ too_long_line)
+IsWholeAnswer words left later Usage text = (IsProveCommand words → ⊥) × Keeps left later × (text ≡ usage_line)
 IsWholeAnswer words left later _ text = ⊥
 
 -- The sink took a prefix of the whole answer of some status.
@@ -49,15 +53,16 @@ TakesPrefix words left later held after = (status : Status) × (text : List ℕ)
 
 -- What each status says of the source and the sink.
 abbrev pub Answered : List (List ℕ) → (left later held after : Option (List ℕ)) → Status → Type 0
-Answered words left later held after ReadFault = IsProve words × TakesAtMost most_input left later × Keeps held after
+Answered words left later held after ReadFault = IsProveCommand words × TakesAtMost most_input left later × Keeps held after
 Answered words left later held after WriteFault = TakesPrefix words left later held after
-Answered words left later held after NoMemory = (IsProve words × TakesAtMost most_input left later × Keeps held after) ⊎ TakesPrefix words left later held after
+Answered words left later held after NoMemory = (IsProveCommand words × TakesAtMost most_input left later × Keeps held after) ⊎ TakesPrefix words left later held after
 Answered words left later held after status = (text : List ℕ) × IsWholeAnswer words left later status text × Appends held after text
 
 -- The file was answered, or memory ran out.
 abbrev pub Served : Status → Type 0
 Served AllProved = Unit {0}
 Served SomeStuck = Unit {0}
+Served SomeSpent = Unit {0}
 Served NoMemory = Unit {0}
 Served _ = ⊥
 
@@ -75,8 +80,8 @@ Overlong _ = ⊥
 
 -- The status that the input must have where nothing fails.
 pub record IsStatusFor (input : List ℕ) (status : Status) : Type 0 where
-  -- a small program is answered
-  pub small : (program : LfProgram) → length input ≤ most_input → IsAccepted input program → IsSmall program → Served status
+  -- a program is answered
+  pub accepted : (program : LfProgram) → length input ≤ most_input → IsAccepted input program → Served status
   -- what is refused is said to be so
   pub refused : (place : ℕ) (kind : RefusalKind) → length input ≤ most_input → RefusesText input place kind → Refused status
   -- and so is what is too long

@@ -1,110 +1,103 @@
--- The text of right answers for a small program.
-use Rattle.std.specs.Prelude.{◌≡◌, ℕ, List, [], ◌∷◌, ◌++◌, codes, Bool, true, false, Option}
+-- Documents of right answers for a program.
+use Rattle.std.specs.Prelude.{◌≡◌, ℕ, Bool, true, false, List, [], ◌∷◌, ◌++◌, map, flat_map, codes, decimal, Option, if◌then◌else◌}
+use Rattle.std.specs.List.{list_any}
 use Rattle.std.specs.Io.KnownBytes.{Appends}
 use Rattle.run_io.specs.Moves.{AppendsPrefix}
-use Rattle.lf_definitions.specs.Syntax.{LfTerm, no_args, arg}
-use Rattle.small_programs.specs.declared.small.SmallProgram.{SmallProgram}
-use Rattle.small_programs.specs.Names.{small_constant_names, small_rule_names}
-use Rattle.small_programs.specs.declared.small.SmallTheorem.{SmallTheorem}
+use Rattle.lf_definitions.specs.Typing.{Formed}
+use Rattle.lf_definitions.specs.Signatures.{kinds_in, typing_in}
+use Rattle.file_elab.specs.Theorems.{LfTheorem}
+use Rattle.file_elab.specs.Programs.{LfProgram}
+use Rattle.goal_book.specs.GoalBooks.{LfBook, rules_in, IsBookOf}
+use Rattle.right_answers.specs.Blocks.{LfVerdict, proved, stuck, spent, LfBlock}
+use Rattle.right_answers.specs.Right.{IsRight}
+use Rattle.right_answers.specs.Settled.{IsStillAnswer}
+use Rattle.answer_text.specs.Texts.{line, block_text}
+use Rattle.aesop_session.specs.Commands.{LfOptions}
 use Rattle.aesop_session.specs.declared.status.Status.{Status}
-use Rattle.aesop_session.specs.declared.status.Status.TheVariants.{AllProved, SomeStuck}
-use Rattle.small_search.specs.Derivations.{HasNoDerivation}
-use Rattle.small_search.specs.DerivationTerms.{HasTerms}
-use Rattle.small_answers.specs.Texts.{line, closed_term_text, script_text}
+use Rattle.aesop_session.specs.declared.status.Status.TheVariants.{AllProved, SomeStuck, SomeSpent}
 
-abbrev pub first_line : List ℕ
-first_line = line (codes "aesop 1 budget 1000")
+abbrev pub first_line : ℕ → List ℕ
+first_line budget = line (codes "aesop 1 budget " ++ decimal budget)
 
 abbrev pub last_line : List ℕ
 last_line = line (codes "end")
 
--- what is answered for a theorem
-pub data Verdict : Type 0 where
-  proved : Verdict
-  stuck : Verdict
+-- The book of a program: the rules of all its sets, in the order in which they are tried.
+abbrev pub IsBookOfProgram : LfProgram → LfBook → Type 0
+IsBookOfProgram program b = IsBookOf program.signature program.book (map (λ rule. rule.set) program.book.rules) b
 
-abbrev pub verdict_of : (is_proved : Bool) → Verdict
-verdict_of true = proved
-verdict_of false = stuck
+-- The block is what the still run answers for the theorem, and it is right.
+pub record AnswersTheorem (b : LfBook) (options : LfOptions) (theorem : LfTheorem) (block : LfBlock) : Type 0 where
+  pub still : IsStillAnswer b.sig (rules_in b) theorem.type options.budget options.trace theorem.name block
+  pub right : IsRight b.sig (rules_in b) options.budget theorem.type theorem.name block
 
--- the block of a theorem with a term and a script
-abbrev pub proved_text : (theorem term script : List ℕ) → List ℕ
-proved_text theorem term script =
-    line (codes "theorem " ++ theorem ++ codes " proved") ++ line (codes "term " ++ term) ++ script
+-- One such block for each theorem, in order.
+pub data AnswerTheorems (b : LfBook) (options : LfOptions) : List LfTheorem → List LfBlock → Type 0 where
+  no_theorem : AnswerTheorems b options [] []
+  one_theorem : (theorem : LfTheorem) (theorems : List LfTheorem) (block : LfBlock) (blocks : List LfBlock) → AnswersTheorem b options theorem block →
+      AnswerTheorems b options theorems blocks → AnswerTheorems b options (theorem ∷ theorems) (block ∷ blocks)
 
-abbrev pub stuck_text : (theorem : List ℕ) → List ℕ
-stuck_text theorem = line (codes "theorem " ++ theorem ++ codes " stuck")
+abbrev pub is_spent : LfVerdict → Bool
+is_spent (proved t script) = false
+is_spent stuck = false
+is_spent spent = true
 
--- The block says that the theorem has a derivation, with its term and a step for each of its choices.
-pub record IsProvedBlock (program : SmallProgram) (theorem : SmallTheorem) (text : List ℕ) : Type 0 where
-  pub numbers : List ℕ
-  pub term : LfTerm
-  pub has_terms : HasTerms program (theorem.family ∷ []) numbers (arg term no_args)
-  pub text_is : text ≡ proved_text theorem.name (closed_term_text (small_constant_names program.constants) term) (script_text (small_rule_names program.rules) numbers)
+abbrev pub is_stuck : LfVerdict → Bool
+is_stuck (proved t script) = false
+is_stuck stuck = true
+is_stuck spent = false
 
--- The block says that the theorem has no derivation.
-pub record IsStuckBlock (program : SmallProgram) (theorem : SmallTheorem) (text : List ℕ) : Type 0 where
-  pub none : HasNoDerivation program theorem.family
-  pub text_is : text ≡ stuck_text theorem.name
+-- the status of a document: whether a block is spent, or else whether one is stuck
+abbrev pub status_of : List LfBlock → Status
+status_of blocks =
+    if list_any (λ block. is_spent block.verdict) blocks then SomeSpent
+    else (if list_any (λ block. is_stuck block.verdict) blocks then SomeStuck else AllProved)
 
--- The block is right for the theorem.
-abbrev pub IsBlock : SmallProgram → SmallTheorem → Verdict → List ℕ → Type 0
-IsBlock program theorem proved text = IsProvedBlock program theorem text
-IsBlock program theorem stuck text = IsStuckBlock program theorem text
+-- the text of some blocks, by the names of a book
+abbrev pub blocks_text : LfBook → List LfBlock → List ℕ
+blocks_text b blocks = flat_map (block_text b.sig b.book) blocks
 
--- One right block for each theorem, in order.
-pub data AreBlocks (program : SmallProgram) : List SmallTheorem → List Verdict → List ℕ → Type 0 where
-  nothing : AreBlocks program [] [] []
-  next : (theorem : SmallTheorem) (theorems : List SmallTheorem) (verdict : Verdict) (verdicts : List Verdict) (block blocks text : List ℕ) →
-      IsBlock program theorem verdict block → AreBlocks program theorems verdicts blocks → text ≡ block ++ blocks →
-      AreBlocks program (theorem ∷ theorems) (verdict ∷ verdicts) text
+-- The text is a document of the answers by a book for these theorems, with this status.
+pub record IsDocumentBy (b : LfBook) (options : LfOptions) (theorems : List LfTheorem) (status : Status) (text : List ℕ) : Type 0 where
+  pub blocks : List LfBlock
+  pub answers : AnswerTheorems b options theorems blocks
+  pub text_is : text ≡ first_line options.budget ++ blocks_text b blocks ++ last_line
+  pub status_is : status ≡ status_of blocks
 
--- the status of a document: whether a block is stuck
-abbrev pub status_of : List Verdict → Status
-status_of [] = AllProved
-status_of (proved ∷ verdicts) = status_of verdicts
-status_of (stuck ∷ verdicts) = SomeStuck
+-- The text is a document for the program, with this status.
+pub record IsDocument (program : LfProgram) (options : LfOptions) (status : Status) (text : List ℕ) : Type 0 where
+  pub b : LfBook
+  pub is_book : IsBookOfProgram program b
+  pub by_book : IsDocumentBy b options program.theorems status text
 
--- The text is a right document for the program, with this status.
-pub record IsDocument (program : SmallProgram) (status : Status) (text : List ℕ) : Type 0 where
-  pub verdicts : List Verdict
-  pub blocks : List ℕ
-  pub are_blocks : AreBlocks program program.theorems verdicts blocks
-  pub text_is : text ≡ first_line ++ blocks ++ last_line
-  pub status_is : status ≡ status_of verdicts
+-- The text is that of a block that answers the theorem, with the status of this block.
+abbrev pub IsBlockText : LfBook → LfOptions → LfTheorem → Status → (text : List ℕ) → Type 0
+IsBlockText b options theorem status text = (block : LfBlock) × AnswersTheorem b options theorem block × (status ≡ status_of (block ∷ [])) × (text ≡ block_text b.sig b.book block)
 
--- These bytes are added, and are a right block that says that the theorem is proved.
-abbrev pub AddsProvedBlock : SmallProgram → SmallTheorem → (old new : List ℕ) → Type 0
-AddsProvedBlock program theorem old new = (text : List ℕ) × IsProvedBlock program theorem text × (new ≡ old ++ text)
+-- The sink took the blocks of the theorems, with this status.
+pub record WritesBlocks (b : LfBook) (options : LfOptions) (theorems : List LfTheorem) (held after : Option (List ℕ)) (status : Status) : Type 0 where
+  pub blocks : List LfBlock
+  pub answers : AnswerTheorems b options theorems blocks
+  pub status_is : status ≡ status_of blocks
+  pub taken : Appends held after (blocks_text b blocks)
 
--- These bytes are added, and are the theorem's block, with this verdict.
-abbrev pub AddsBlock : SmallProgram → SmallTheorem → (old new : List ℕ) → Bool → Type 0
-AddsBlock program theorem old new is_proved = (text : List ℕ) × IsBlock program theorem (verdict_of is_proved) text × (new ≡ old ++ text)
+-- The sink took a prefix of the blocks of the first of the theorems.
+pub record WritesBlocksPrefix (b : LfBook) (options : LfOptions) (theorems : List LfTheorem) (held after : Option (List ℕ)) : Type 0 where
+  pub first : List LfTheorem
+  pub rest : List LfTheorem
+  pub parts : theorems ≡ first ++ rest
+  pub blocks : List LfBlock
+  pub answers : AnswerTheorems b options first blocks
+  pub taken : AppendsPrefix held after (blocks_text b blocks)
 
--- The sink took the theorem's block, with this verdict.
-abbrev pub WritesBlock : SmallProgram → SmallTheorem → (held after : Option (List ℕ)) → Bool → Type 0
-WritesBlock program theorem held after is_proved = (text : List ℕ) × IsBlock program theorem (verdict_of is_proved) text × Appends held after text
+-- The sink took a document, with this status.
+abbrev pub WritesDocument : LfBook → LfOptions → List LfTheorem → (held after : Option (List ℕ)) → Status → Type 0
+WritesDocument b options theorems held after status = (text : List ℕ) × IsDocumentBy b options theorems status text × Appends held after text
 
--- The sink took a prefix of a right block of the theorem.
-abbrev pub WritesBlockPrefix : SmallProgram → SmallTheorem → (held after : Option (List ℕ)) → Type 0
-WritesBlockPrefix program theorem held after = (verdict : Verdict) × (text : List ℕ) × IsBlock program theorem verdict text × AppendsPrefix held after text
+-- The sink took a prefix of a document.
+abbrev pub WritesDocumentPrefix : LfBook → LfOptions → List LfTheorem → (held after : Option (List ℕ)) → Type 0
+WritesDocumentPrefix b options theorems held after = (status : Status) × (text : List ℕ) × IsDocumentBy b options theorems status text × AppendsPrefix held after text
 
--- The sink took right blocks of the theorems, with this status.
-pub record WritesBlocks (program : SmallProgram) (theorems : List SmallTheorem) (held after : Option (List ℕ)) (status : Status) : Type 0 where
-  pub verdicts : List Verdict
-  pub blocks : List ℕ
-  pub are_blocks : AreBlocks program theorems verdicts blocks
-  pub status_is : status ≡ status_of verdicts
-  pub taken : Appends held after blocks
-
--- The sink took a prefix of right blocks of the theorems.
-abbrev pub WritesBlocksPrefix : SmallProgram → List SmallTheorem → (held after : Option (List ℕ)) → Type 0
-WritesBlocksPrefix program theorems held after = (verdicts : List Verdict) × (blocks : List ℕ) × AreBlocks program theorems verdicts blocks × AppendsPrefix held after blocks
-
--- The sink took a right document, with this status.
-abbrev pub WritesDocument : SmallProgram → (held after : Option (List ℕ)) → Status → Type 0
-WritesDocument program held after status = (text : List ℕ) × IsDocument program status text × Appends held after text
-
--- The sink took a prefix of a right document.
-abbrev pub WritesDocumentPrefix : SmallProgram → (held after : Option (List ℕ)) → Type 0
-WritesDocumentPrefix program held after = (status : Status) × (text : List ℕ) × IsDocument program status text × AppendsPrefix held after text
+-- Each theorem with a well-formed type has an answer.
+abbrev pub HasAnswers : LfBook → Type 0
+HasAnswers b = (options : LfOptions) (theorem : LfTheorem) → Formed (kinds_in b.sig) (typing_in b.sig [] []) theorem.type → (block : LfBlock) × AnswersTheorem b options theorem block

@@ -1,30 +1,18 @@
 -- What the functions that read say of the bytes and of the source, where a program is served and where none is.
-use Rattle.std.specs.Prelude.{◌≡◌, ℕ, ◌≤◌, List, length, Option}
+use Rattle.std.specs.Prelude.{ℕ, ◌≤◌, List, length, Option}
 use Rattle.run_io.specs.Moves.{TakesAll, TakesAtMost, TakesMoreThan}
-use Rattle.small_programs.specs.declared.small.SmallProgram.{SmallProgram}
-use Rattle.file_elab.specs.Programs.{LfProgram}
-use Rattle.small_forms.specs.Smallness.{IsSmall, small_form}
 use Rattle.aesop_session.specs.declared.refusal.Refusal.{Refusal}
 use Rattle.aesop_session.specs.declared.accepting.Unserved.{Unserved}
 use Rattle.aesop_session.specs.declared.accepting.Unserved.TheVariants as unserved
 use Rattle.aesop_session.specs.declared.input.NoProgram.{NoProgram}
 use Rattle.aesop_session.specs.declared.input.NoProgram.TheVariants as none
-use Rattle.aesop_session.specs.Refusals.{IsAccepted, RefusesText}
+use Rattle.aesop_session.specs.Refusals.{RefusesText}
 use Rattle.basics.specs.Limits.{most_input}
-use Rattle.aesop_session.specs.Answers.{TakesProgram}
-
--- The bytes are accepted, and this is what their small program declares.
-abbrev pub IsSmallOf : List ℕ → SmallProgram → Type 0
-IsSmallOf bytes small = (program : LfProgram) × IsAccepted bytes program × IsSmall program × (small ≡ small_form program)
 
 -- Of out of memory nothing is said.
 abbrev pub IsUnserved : List ℕ → Unserved → Type 0
 IsUnserved bytes (unserved.Refused refusal) = RefusesText bytes refusal.place refusal.kind
 IsUnserved bytes unserved.NoMemory = Unit {0}
-
--- What was read declares this small program.
-abbrev pub TakesSmall : (left later : Option (List ℕ)) → SmallProgram → Type 0
-TakesSmall left later small = (program : LfProgram) × TakesProgram left later program × (small ≡ small_form program)
 
 -- What was read is refused.
 abbrev pub TakesRefused : (left later : Option (List ℕ)) → Refusal → Type 0

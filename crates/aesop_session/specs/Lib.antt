@@ -4,4 +4,3 @@ pub mod Documents
 pub mod Refusals
 pub mod Answers
 pub mod Inputs
-pub mod Verdicts

@@ -8,10 +8,9 @@ use Rattle.file_syntax.specs.Files.{IsExpected, IsTooDeep}
 use Rattle.elab_terms.specs.declared.elab_fault.ElabFault.{ElabFault}
 use Rattle.elab_terms.specs.declared.elab_fault.ElabFault.TheVariants as faults
 use Rattle.file_elab.specs.Programs.{LfProgram, IsParsedFrom, IsProgram, IsRefused}
-use Rattle.small_forms.specs.Smallness.{IsSmall}
-use Rattle.small_answers.specs.Texts.{line}
+use Rattle.answer_text.specs.Texts.{line}
 use Rattle.aesop_session.specs.declared.refusal.RefusalKind.{RefusalKind}
-use Rattle.aesop_session.specs.declared.refusal.RefusalKind.TheVariants.{NotUtf8, BadCharacter, LongName, Expected, TooDeep, Taken, TooMany, Unknown, Redex, IllTyped, BadRule, Unsupported}
+use Rattle.aesop_session.specs.declared.refusal.RefusalKind.TheVariants.{NotUtf8, BadCharacter, LongName, Expected, TooDeep, Taken, TooMany, Unknown, Redex, IllTyped, BadRule}
 
 -- The bytes are a file by the grammar, and this is its program.
 abbrev pub IsAccepted : List ℕ → LfProgram → Type 0
@@ -22,7 +21,6 @@ abbrev pub HasFault : List ℕ → ElabFault → Type 0
 HasFault bytes fault = (declarations : List DeclTree) × IsParsedFrom bytes declarations × IsRefused bytes declarations fault
 
 -- The bytes are refused at this place for this: the characters first, then the tokens, the grammar and the declarations.
--- An accepted program that is not small is refused at the start.
 abbrev pub RefusesText : List ℕ → (place : ℕ) → RefusalKind → Type 0
 RefusesText bytes place NotUtf8 = NotUtf8At bytes place
 RefusesText bytes place BadCharacter = WrongText bytes (bad_character place)
@@ -35,7 +33,6 @@ RefusesText bytes place Unknown = HasFault bytes (faults.Unknown place)
 RefusesText bytes place Redex = HasFault bytes (faults.Redex place)
 RefusesText bytes place IllTyped = HasFault bytes (faults.IllTyped place)
 RefusesText bytes place BadRule = HasFault bytes (faults.BadRule place)
-RefusesText bytes place Unsupported = (place ≡ 0) × (program : LfProgram) × IsAccepted bytes program × (IsSmall program → ⊥)
 
 abbrev pub fault_word : RefusalKind → List ℕ
 fault_word NotUtf8 = codes "not utf-8"
@@ -49,7 +46,6 @@ fault_word Unknown = codes "unknown"
 fault_word Redex = codes "redex"
 fault_word IllTyped = codes "ill typed"
 fault_word BadRule = codes "bad rule"
-fault_word Unsupported = codes "unsupported"
 
 -- what is written of a refusal
 abbrev pub line_of : RefusalKind → (place : ℕ) → List ℕ

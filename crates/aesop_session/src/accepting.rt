@@ -1,5 +1,4 @@
-//! From bytes to what their small program declares, in four passes: the tokens, the tree, the program, and
-//! what a small one declares. Each pass refuses what is its own to refuse.
+//! From bytes to their program, in three passes: the tokens, the tree and the program. Each pass refuses what is its own to refuse.
 
 ghost use Rattle.std.specs.Prelude.{◌≡◌, ◌<◌, ◌^◌, IfOk, IfErr, length, All};
 ghost use Rattle.lex_text.specs.Tokens.{TokensOf, IsWithin};
@@ -7,9 +6,8 @@ ghost use Rattle.rule_sets.specs.Refusals.{IsOver};
 ghost use Rattle.file_elab.specs.Programs.{IsParsedFrom};
 ghost use Rattle.file_elab.specs.ProgramViews.{program_of};
 ghost use Rattle.file_elab.specs.Theorems.{AreFormed};
-ghost use Rattle.small_programs.specs.SmallPrograms.{IsNumbered};
 ghost use Rattle.aesop_session.specs.Refusals.{IsAccepted};
-ghost use Rattle.aesop_session.specs.Inputs.{IsSmallOf, IsUnserved};
+ghost use Rattle.aesop_session.specs.Inputs.{IsUnserved};
 
 use crate::refusal::{Refusal, RefusalKind};
 use file_elab::{ElabFault, Program, elaborate};
@@ -17,8 +15,6 @@ use file_syntax::{ParseFault, parse};
 use file_trees::FileTree;
 use lex_text::tokens::tokens;
 use lex_text::{LexFault, Tokens};
-use small_forms::small_program;
-use small_programs::SmallProgram;
 use std::alloc::Global;
 
 /// Why no program is served.
@@ -72,8 +68,8 @@ fn parsed(alloc: Global, bytes: &[u8]) -> Result<FileTree, Unserved>
     }
 }
 
-/// The program of the bytes.
-fn accepted(alloc: Global, bytes: &[u8]) -> Result<Program, Unserved>
+/// The program of the bytes, or why there is none: what is wrong with them first.
+pub(crate) fn accepted(alloc: Global, bytes: &[u8]) -> Result<Program, Unserved>
     requires { length bytes.now < 2 ^ 32 }
     ensures accepted { IfOk result (λ program. IsAccepted bytes.now (program_of program)) }
     ensures theorems { IfOk result (λ program. AreFormed program.sig program.theorems) }
@@ -93,24 +89,5 @@ fn accepted(alloc: Global, bytes: &[u8]) -> Result<Program, Unserved>
         Err(ElabFault::IllTyped(place)) => Err(refused(RefusalKind::IllTyped, place)),
         Err(ElabFault::BadRule(place)) => Err(refused(RefusalKind::BadRule, place)),
         Err(ElabFault::NoMemory) => Err(Unserved::NoMemory),
-    }
-}
-
-/// What the small program of the bytes declares. A program that is accepted and not small is refused at
-/// the start.
-pub(crate) fn small_of(alloc: Global, bytes: &[u8]) -> Result<SmallProgram, Unserved>
-    requires { length bytes.now < 2 ^ 32 }
-    ensures small { IfOk result (IsSmallOf bytes.now) }
-    ensures numbered { IfOk result IsNumbered }
-    ensures why { IfErr result (IsUnserved bytes.now) }
-{
-    let program = match accepted(alloc, bytes) {
-        Ok(program) => program,
-        Err(why) => return Err(why),
-    };
-    match small_program(alloc, &program) {
-        Ok(Some(small)) => Ok(small),
-        Ok(None) => Err(refused(RefusalKind::Unsupported, 0)),
-        Err(_) => Err(Unserved::NoMemory),
     }
 }

@@ -1,86 +1,78 @@
-//! The text of a theorem's block.
+//! Answering a theorem.
 
-ghost use Rattle.std.specs.Prelude.{◌≡◌, ◌++◌, ◌+◌, ◌≤◌, ◌↔◌, length, IfOk, OnOk, IsSome, IsTrue};
-ghost use Rattle.small_search.specs.Closings.{closing_of, IsTable};
-ghost use Rattle.small_answers.specs.Lengths.{IsProofs};
-ghost use Rattle.aesop_session.specs.Documents.{stuck_text, AddsBlock, AddsProvedBlock};
+ghost use Rattle.std.specs.Prelude.{◌≡◌, ◌≤◌, ◌<◌, ◌⊎◌, ◌∷◌, [], IfOk, OnErr, IsErrOf};
+ghost use Rattle.run_io.specs.Causes.{Rose};
+ghost use Rattle.lf_definitions.specs.Typing.{Formed};
+ghost use Rattle.lf_definitions.specs.Signatures.{kinds_in, typing_in};
+ghost use Rattle.lf_terms.specs.Types.{type_of};
+ghost use Rattle.file_elab.specs.ProgramViews.{theorem_of};
+ghost use Rattle.answer_text.specs.Seen.{seen_block};
+ghost use Rattle.aesop_session.specs.Commands.{options_of};
+ghost use Rattle.aesop_session.specs.Documents.{status_of, IsBlockText, WritesBlocks, WritesBlocksPrefix};
 
-use basics::{Bytes, Ids, NoMemory};
-use small_answers::{Proofs, append_numbers, append_script, append_term};
-use small_programs::{SmallProgram, SmallTheorem};
-use small_search::Table;
+use crate::status::Status;
+use crate::writing::{WriteFault, write_text};
+use answer_text::{Block, Verdict, write_block};
+use basics::{Bytes, NoMemory};
+use file_elab::Theorem;
+use goal_book::GoalBook;
+use run_io::Sink;
 use std::alloc::Global;
+use theorem_search::{Opts, prove_theorem_still};
 
-/// A block of so many bytes or more is out of memory.
-const MOST: u64 = 1 << 31;
-
-/// How many bytes a proved block has beside the names and the texts: those of its words.
-const WORDS: u64 = 22;
-
-/// Adds the block of a theorem at the end, and answers whether the theorem is proved. A block that
-/// would be too long is out of memory before any of it is made.
-pub(crate) fn append_block(
+/// Answers a theorem, and writes its block as one piece. The status is that of the block.
+pub(crate) fn answer_theorem<K: Sink>(
     alloc: Global,
-    out: &mut Bytes,
-    program: &SmallProgram,
-    proofs: &Proofs,
-    theorem: &SmallTheorem,
-) -> Result<bool, NoMemory>
-    requires { IsProofs program.now proofs.now }
-    ensures { IfOk result (AddsBlock program.now theorem.now out.old out.new) }
+    book: &GoalBook<'_>,
+    theorem: &Theorem,
+    opts: &Opts,
+    text: &mut Bytes,
+    sink: &mut K,
+) -> Result<Status, WriteFault>
+    requires budget { 0 < opts.now.budget }
+    requires formed { Formed (kinds_in book.now.sig) (typing_in book.now.sig [] []) (type_of theorem.now.ty) }
+    ensures ok { IfOk result (WritesBlocks book.now (options_of opts.now) (theorem_of theorem.now ∷ []) (K.held sink.old) (K.held sink.new)) }
+    ensures err { OnErr result (WritesBlocksPrefix book.now (options_of opts.now) (theorem_of theorem.now ∷ []) (K.held sink.old) (K.held sink.new)) }
+    ensures cause { IsErrOf result WriteFault.Write →
+        Rose (K.faults sink.old) (K.faults sink.new) ⊎ Rose (K.zeros sink.old) (K.zeros sink.new) }
+    ensures faults_later { K.faults sink.old ≤ K.faults sink.new }
+    ensures zeros_later { K.zeros sink.old ≤ K.zeros sink.new }
 {
-    match proofs.table.closing(theorem.family) {
-        Some(closing) => {
-            let length = proofs.lengths[closing.rank as usize];
-            if is_too_long(theorem.name.as_bytes(), length.term, length.script) {
-                return Err(NoMemory);
-            }
-            append_proved(alloc, out, program, &proofs.table, theorem)?;
-            Ok(true)
-        }
-        None => {
-            append_stuck(out, theorem.name.as_bytes())?;
-            Ok(false)
-        }
+    let status = match put_block(alloc, book, theorem, opts, text) {
+        Ok(status) => status,
+        Err(_) => return Err(WriteFault::NoMemory),
+    };
+    match write_text(sink, text.as_slice()) {
+        Ok(()) => Ok(status),
+        Err(stop) => Err(stop),
     }
 }
 
-/// Whether a proved block would be too long, by its name and the lengths of its texts.
-fn is_too_long(name: &[u8], term: u32, script: u32) -> bool
-    ensures { IsTrue result ↔ (2147483648 ≤ length name.now + term + script + 22) }
-{
-    let texts = u64::from(term) + u64::from(script);
-    name.len() as u64 >= MOST || texts + name.len() as u64 + WORDS >= MOST
-}
-
-/// Adds the block of a theorem that the table closes.
-fn append_proved(
+/// Answers a theorem, and puts the text of its block in the place of what `text` has. The status is that of the block.
+fn put_block(
     alloc: Global,
-    out: &mut Bytes,
-    program: &SmallProgram,
-    table: &Table,
-    theorem: &SmallTheorem,
-) -> Result<(), NoMemory>
-    requires table { IsTable program.now table.now }
-    requires closed { IsSome (closing_of table.now.by_family theorem.now.family) }
-    ensures { OnOk result (AddsProvedBlock program.now theorem.now out.old out.new) }
+    book: &GoalBook<'_>,
+    theorem: &Theorem,
+    opts: &Opts,
+    text: &mut Bytes,
+) -> Result<Status, NoMemory>
+    requires budget { 0 < opts.now.budget }
+    requires formed { Formed (kinds_in book.now.sig) (typing_in book.now.sig [] []) (type_of theorem.now.ty) }
+    ensures { IfOk result (λ status. IsBlockText book.now (options_of opts.now) (theorem_of theorem.now) status text.new) }
 {
-    let mut numbers = Ids::new(alloc);
-    append_numbers(&mut numbers, program, table, theorem.family)?;
-    out.append(b"theorem ")?;
-    out.append(theorem.name.as_bytes())?;
-    out.append(b" proved\nterm ")?;
-    append_term(out, program, table, theorem.family)?;
-    out.append(b"\n")?;
-    append_script(out, program, numbers.as_slice())?;
-    Ok(())
+    let block = prove_theorem_still(alloc, book, theorem, opts)?;
+    text.clear();
+    write_block(book.sig(), book.rules(), &block, text)?;
+    Ok(status_by(&block))
 }
 
-/// Adds the block of a theorem that nothing closes.
-fn append_stuck(out: &mut Bytes, theorem: &[u8]) -> Result<(), NoMemory>
-    ensures { OnOk result (out.new ≡ out.old ++ stuck_text theorem.now) }
+/// The status of a block.
+fn status_by(block: &Block) -> Status
+    ensures { result ≡ status_of (seen_block block.now ∷ []) }
 {
-    out.append(b"theorem ")?;
-    out.append(theorem)?;
-    out.append(b" stuck\n")
+    match block.verdict {
+        Verdict::Proved(_, _) => Status::AllProved,
+        Verdict::Stuck => Status::SomeStuck,
+        Verdict::Spent => Status::SomeSpent,
+    }
 }

@@ -2,14 +2,17 @@
 
 ghost use Rattle.std.specs.Prelude.{◌≡◌, ◌≤◌, IfOk, IfErr, IsErrOf};
 ghost use Rattle.run_io.specs.Causes.{Rose};
-ghost use Rattle.small_programs.specs.SmallPrograms.{IsNumbered};
-ghost use Rattle.aesop_session.specs.Inputs.{TakesSmall, IsNoProgram};
+ghost use Rattle.rule_sets.specs.Refusals.{IsOver};
+ghost use Rattle.file_elab.specs.ProgramViews.{program_of};
+ghost use Rattle.file_elab.specs.Theorems.{AreFormed};
+ghost use Rattle.aesop_session.specs.Answers.{TakesProgram};
+ghost use Rattle.aesop_session.specs.Inputs.{IsNoProgram};
 
-use crate::accepting::{Unserved, small_of};
+use crate::accepting::{Unserved, accepted};
 use crate::refusal::Refusal;
 use basics::limits::MOST_INPUT;
+use file_elab::Program;
 use run_io::{ReadEnd, Source, read_all};
-use small_programs::SmallProgram;
 use std::alloc::Global;
 
 /// Why no program was read.
@@ -25,13 +28,11 @@ pub(crate) enum NoProgram {
     NoMemory,
 }
 
-/// Reads the input to its end, and what its small program declares.
-pub(crate) fn read_program<S: Source>(
-    alloc: Global,
-    source: &mut S,
-) -> Result<SmallProgram, NoProgram>
-    ensures small { IfOk result (TakesSmall (S.left source.old) (S.left source.new)) }
-    ensures numbered { IfOk result IsNumbered }
+/// Reads the input to its end, and answers its program.
+pub(crate) fn read_program<S: Source>(alloc: Global, source: &mut S) -> Result<Program, NoProgram>
+    ensures takes { IfOk result (λ program. TakesProgram (S.left source.old) (S.left source.new) (program_of program)) }
+    ensures theorems { IfOk result (λ program. AreFormed program.sig program.theorems) }
+    ensures rules { IfOk result (λ program. IsOver program.sig program.rules) }
     ensures why { IfErr result (IsNoProgram (S.left source.old) (S.left source.new)) }
     ensures fault { IsErrOf result NoProgram.Fault → Rose (S.faults source.old) (S.faults source.new) }
     ensures later { S.faults source.old ≤ S.faults source.new }
@@ -42,8 +43,8 @@ pub(crate) fn read_program<S: Source>(
         Err(ReadEnd::TooLong) => return Err(NoProgram::TooLong),
         Err(ReadEnd::NoMemory) => return Err(NoProgram::NoMemory),
     };
-    match small_of(alloc, input.as_slice()) {
-        Ok(small) => Ok(small),
+    match accepted(alloc, input.as_slice()) {
+        Ok(program) => Ok(program),
         Err(Unserved::Refused(refusal)) => Err(NoProgram::Refused(refusal)),
         Err(Unserved::NoMemory) => Err(NoProgram::NoMemory),
     }

@@ -30,8 +30,6 @@ pub enum RefusalKind {
     IllTyped,
     /// A rule is not one of its builder.
     BadRule,
-    /// The program is not one that is served.
-    Unsupported,
 }
 
 /// The first thing that is wrong with an input, and its place in bytes.
@@ -61,7 +59,6 @@ impl RefusalKind {
             RefusalKind::Redex => "redex",
             RefusalKind::IllTyped => "ill typed",
             RefusalKind::BadRule => "bad rule",
-            RefusalKind::Unsupported => "unsupported",
         }
     }
 }

@@ -12,7 +12,7 @@ pub enum Status {
     SomeStuck,
     /// A block is spent.
     SomeSpent,
-    /// The input is refused: it is no file, or its program is not one that is served.
+    /// The input is refused: it is no file, or one of its declarations is refused.
     FileRefused,
     /// The words are no command line.
     Usage,

@@ -1,32 +1,38 @@
 //! The top call.
 
-ghost use Rattle.std.specs.Prelude.{◌≡◌, ◌≤◌, ◌⊎◌, Option, Some, List, ℕ};
+ghost use Rattle.std.specs.Prelude.{◌≡◌, ◌≤◌, ◌<◌, ◌⊎◌, Option, Some, List, ℕ};
 ghost use Rattle.run_io.specs.Causes.{Rose};
 ghost use Rattle.run_io.specs.Moves.{TakesMoreThan};
-ghost use Rattle.small_programs.specs.SmallPrograms.{IsNumbered};
-ghost use Rattle.aesop_session.specs.Commands.{IsProve, prove_words};
+ghost use Rattle.rule_sets.specs.Refusals.{IsOver};
+ghost use Rattle.file_elab.specs.ProgramViews.{program_of};
+ghost use Rattle.file_elab.specs.Theorems.{AreFormed};
+ghost use Rattle.aesop_session.specs.Commands.{IsProve, IsProveCommand, options_of};
 ghost use Rattle.basics.specs.Limits.{most_input};
-ghost use Rattle.aesop_session.specs.Answers.{Answered, IsStatusFor};
-ghost use Rattle.aesop_session.specs.Inputs.{TakesSmall, TakesRefused};
+ghost use Rattle.aesop_session.specs.Answers.{Answered, IsStatusFor, TakesProgram};
+ghost use Rattle.aesop_session.specs.Inputs.{TakesRefused};
 ghost use Rattle.aesop_session.specs.declared.status.Status.{Status};
 
-use crate::command::is_prove;
-use crate::document::{WriteFault, write_document, write_text};
+use crate::book::book_of;
+use crate::command::options;
+use crate::document::write_document;
 use crate::input::{NoProgram, read_program};
 use crate::refusal::{Refusal, line_of};
 use crate::status::Status;
+use crate::writing::{WriteFault, write_text};
 use basics::Words;
+use file_elab::Program;
 use run_io::{Sink, Source};
-use small_answers::Proofs;
-use small_programs::SmallProgram;
 use std::alloc::Global;
+use theorem_search::Opts;
 
 /// Does what the words say. It waits for nobody and returns.
 ///
-/// The words `prove`, `--workers` and `0` read a file from the source, prove its theorems and write
-/// the answers to the sink. Where more than 4,194,304 bytes were read they are `TooLong`. Bytes that are no
-/// file, and files whose program is not small, are `FileRefused`, with the line `refused at P: KIND`: P is
-/// the place of the first fault. All other words are `Usage`, and the usage line is written.
+/// The words `prove --workers 0`, then at most `--budget N`, then at most `--trace`, read a file from the source, search a proof of each
+/// of its theorems in order, and write each answer to the sink as soon as it is found. N is written by one to five digits, and is from 1
+/// to 50,000; the budget is 1,000 where none is given. The status says whether a theorem's budget was spent, or else whether a theorem is
+/// stuck. Where more than 4,194,304 bytes were read they are `TooLong`. Bytes that are no file, and files with a declaration that is
+/// refused, are `FileRefused`, with the line `refused at P: KIND`: P is the place of the first fault. All other words are `Usage`, and the
+/// usage line is written.
 pub fn run_still<S: Source, K: Sink>(
     alloc: Global,
     words: &Words,
@@ -44,24 +50,23 @@ pub fn run_still<S: Source, K: Sink>(
     ensures sink_later { (K.faults sink.old ≤ K.faults sink.new) × (K.zeros sink.old ≤ K.zeros sink.new) }
 
     // Other words read nothing.
-    ensures reads_nothing { (IsProve words.now → ⊥) → source.new ≡ source.old }
+    ensures reads_nothing { (IsProveCommand words.now → ⊥) → source.new ≡ source.old }
 
-    // Where nothing fails the input has its status, unless memory runs out: a small program is answered, what
-    // is refused is said to be so, and so is what is too long.
-    ensures complete { (input : List ℕ) → IsProve words.now → S.left source.old ≡ Some input →
+    // Where nothing fails the input has its status, unless memory runs out: a program is answered, what is refused is said to be so, and
+    // so is what is too long.
+    ensures complete { (input : List ℕ) → IsProveCommand words.now → S.left source.old ≡ Some input →
         (Rose (S.faults source.old) (S.faults source.new) → ⊥) →
         (Rose (K.faults sink.old) (K.faults sink.new) → ⊥) → (Rose (K.zeros sink.old) (K.zeros sink.new) → ⊥) → IsStatusFor input result }
 {
-    if is_prove(words) {
-        prove(alloc, source, sink)
-    } else {
-        say_usage(sink)
+    match options(words) {
+        Some(opts) => prove(alloc, &opts, source, sink),
+        None => say_usage(sink),
     }
 }
 
 /// Writes the usage line.
 fn say_usage<K: Sink>(sink: &mut K) -> Status
-    ensures answered { (words : List (List ℕ)) (left : Option (List ℕ)) → (IsProve words → ⊥) →
+    ensures answered { (words : List (List ℕ)) (left : Option (List ℕ)) → (IsProveCommand words → ⊥) →
         Answered words left left (K.held sink.old) (K.held sink.new) result }
     ensures no_read_fault { result ≡ Status.ReadFault → ⊥ }
     ensures write_fault { result ≡ Status.WriteFault →
@@ -78,8 +83,8 @@ fn say_usage<K: Sink>(sink: &mut K) -> Status
 
 /// Writes that the input is too long.
 fn say_too_long<K: Sink>(sink: &mut K) -> Status
-    ensures answered { (left : Option (List ℕ)) (later : Option (List ℕ)) → TakesMoreThan most_input left later →
-        Answered prove_words left later (K.held sink.old) (K.held sink.new) result }
+    ensures answered { (words : List (List ℕ)) (left later : Option (List ℕ)) → IsProveCommand words → TakesMoreThan most_input left later →
+        Answered words left later (K.held sink.old) (K.held sink.new) result }
     ensures no_read_fault { result ≡ Status.ReadFault → ⊥ }
     ensures write_fault { result ≡ Status.WriteFault →
         Rose (K.faults sink.old) (K.faults sink.new) ⊎ Rose (K.zeros sink.old) (K.zeros sink.new) }
@@ -94,8 +99,8 @@ fn say_too_long<K: Sink>(sink: &mut K) -> Status
 
 /// Writes why and where the input is refused.
 fn say_refused<K: Sink>(alloc: Global, refusal: Refusal, sink: &mut K) -> Status
-    ensures answered { (left : Option (List ℕ)) (later : Option (List ℕ)) → TakesRefused left later refusal →
-        Answered prove_words left later (K.held sink.old) (K.held sink.new) result }
+    ensures answered { (words : List (List ℕ)) (left later : Option (List ℕ)) → IsProveCommand words → TakesRefused left later refusal →
+        Answered words left later (K.held sink.old) (K.held sink.new) result }
     ensures no_read_fault { result ≡ Status.ReadFault → ⊥ }
     ensures write_fault { result ≡ Status.WriteFault →
         Rose (K.faults sink.old) (K.faults sink.new) ⊎ Rose (K.zeros sink.old) (K.zeros sink.new) }
@@ -112,31 +117,35 @@ fn say_refused<K: Sink>(alloc: Global, refusal: Refusal, sink: &mut K) -> Status
     }
 }
 
-/// Proves the theorems of a program and writes the answers.
-fn answer<K: Sink>(alloc: Global, program: &SmallProgram, sink: &mut K) -> Status
-    requires { IsNumbered program.now }
-    ensures answered { (left : Option (List ℕ)) (later : Option (List ℕ)) → TakesSmall left later program.now →
-        Answered prove_words left later (K.held sink.old) (K.held sink.new) result }
+/// Answers the theorems of a program, and writes the answers.
+fn answer<K: Sink>(alloc: Global, program: &Program, opts: &Opts, sink: &mut K) -> Status
+    requires budget { 0 < opts.now.budget }
+    requires theorems { AreFormed program.now.sig program.now.theorems }
+    requires rules { IsOver program.now.sig program.now.rules }
+    ensures answered { (words : List (List ℕ)) (left later : Option (List ℕ)) → IsProve words (options_of opts.now) → TakesProgram left later (program_of program.now) →
+        Answered words left later (K.held sink.old) (K.held sink.new) result }
     ensures no_read_fault { result ≡ Status.ReadFault → ⊥ }
     ensures write_fault { result ≡ Status.WriteFault →
         Rose (K.faults sink.old) (K.faults sink.new) ⊎ Rose (K.zeros sink.old) (K.zeros sink.new) }
     ensures faults_later { K.faults sink.old ≤ K.faults sink.new }
     ensures zeros_later { K.zeros sink.old ≤ K.zeros sink.new }
 {
-    let proofs = match Proofs::of_program(alloc, program) {
-        Ok(proofs) => proofs,
+    let book = match book_of(alloc, program) {
+        Ok(book) => book,
         Err(_) => return Status::NoMemory,
     };
-    match write_document(alloc, program, &proofs, sink) {
+    match write_document(alloc, &book, program.theorems.as_slice(), opts, sink) {
         Ok(status) => status,
         Err(WriteFault::Write) => Status::WriteFault,
         Err(WriteFault::NoMemory) => Status::NoMemory,
     }
 }
 
-/// Reads a file, proves its theorems and writes the answers.
-fn prove<S: Source, K: Sink>(alloc: Global, source: &mut S, sink: &mut K) -> Status
-    ensures answered { Answered prove_words (S.left source.old) (S.left source.new) (K.held sink.old) (K.held sink.new) result }
+/// Reads a file, and answers its theorems or says why there is none.
+fn prove<S: Source, K: Sink>(alloc: Global, opts: &Opts, source: &mut S, sink: &mut K) -> Status
+    requires { 0 < opts.now.budget }
+    ensures answered { (words : List (List ℕ)) → IsProve words (options_of opts.now) →
+        Answered words (S.left source.old) (S.left source.new) (K.held sink.old) (K.held sink.new) result }
     ensures read_fault { result ≡ Status.ReadFault → Rose (S.faults source.old) (S.faults source.new) }
     ensures write_fault { result ≡ Status.WriteFault →
         Rose (K.faults sink.old) (K.faults sink.new) ⊎ Rose (K.zeros sink.old) (K.zeros sink.new) }
@@ -144,7 +153,7 @@ fn prove<S: Source, K: Sink>(alloc: Global, source: &mut S, sink: &mut K) -> Sta
     ensures sink_later { (K.faults sink.old ≤ K.faults sink.new) × (K.zeros sink.old ≤ K.zeros sink.new) }
 {
     match read_program(alloc, source) {
-        Ok(program) => answer(alloc, &program, sink),
+        Ok(program) => answer(alloc, &program, opts, sink),
         Err(NoProgram::Fault) => Status::ReadFault,
         Err(NoProgram::TooLong) => say_too_long(sink),
         Err(NoProgram::Refused(refusal)) => say_refused(alloc, refusal, sink),

@@ -1,6 +1,6 @@
 use Rattle.std.proofs.Common.{ℕ, List, ◌++◌, codes, [], ◌∷◌, ◌∙◌, ap}
 use Rattle.std.specs.Prelude.{decimal}
-use Rattle.small_answers.specs.Texts.{line}
+use Rattle.answer_text.specs.Texts.{line}
 use Rattle.aesop_session.proofs.Answering.{line_parts}
 use Rattle.aesop_session.proofs.refusal.line_of.Goals as goal
 

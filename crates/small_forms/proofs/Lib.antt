@@ -1,5 +1,0 @@
-pub mod Places
-pub mod Binders
-pub mod Forms
-pub mod Lists
-pub mod Numbered
