@@ -1,0 +1,2 @@
+mod FaultPlaces
+mod Verdicts
