@@ -1,1 +1,5 @@
 pub mod Stills
+pub mod Seats
+pub mod Names
+pub mod Moves
+pub mod Tasks
