@@ -1,14 +1,12 @@
 -- What was written of a document is a prefix of one: what is left to write is always there.
-use Rattle.std.proofs.Common.{◌≡◌, ℕ, ◌<◌, ◌+◌, List, [], ◌∷◌, ◌++◌, length, refl, sym, subst, ap, ◌∙◌, Option, append_assoc, append-nil, Bool, true, false, get_or, take, drop}
-use Rattle.std.specs.Prelude.{map, All, if◌then◌else◌, ◌||◌}
-use Rattle.std.specs.List.{list_any}
+use Rattle.std.proofs.Common.{◌≡◌, ℕ, ◌<◌, ◌+◌, List, [], ◌∷◌, ◌++◌, length, refl, sym, subst, ap, ◌∙◌, Option, append_assoc, append-nil, get_or, take, drop}
+use Rattle.std.specs.Prelude.{map, All}
 use Rattle.std.specs.Io.KnownBytes.{Appends}
 use Rattle.std.proofs.KnownBytes.{Appends-nil, Appends-trans}
 use Rattle.std.proofs.Math.ListN.{get_or-map, length-map}
 use Rattle.std.proofs.lemmas.List.{map-append, take_more, take-append-drop}
 use Rattle.std.proofs.lemmas.List.Concat.{flat_map-append}
 use Rattle.std.proofs.lemmas.List.Elements.{All-head, All-tail}
-use Rattle.std.proofs.lemmas.List.Folds.{list_any-append}
 use Rattle.run_io.specs.Moves.{AppendsPrefix}
 use Rattle.lf_definitions.specs.Typing.{Formed}
 use Rattle.lf_definitions.specs.Signatures.{LfSignature, kinds_in, typing_in}
@@ -19,9 +17,9 @@ use Rattle.goal_book.specs.GoalBooks.{LfBook}
 use Rattle.right_answers.specs.Blocks.{LfBlock}
 use Rattle.answer_text.specs.Texts.{block_text}
 use Rattle.aesop_session.specs.declared.status.Status.{Status}
-use Rattle.aesop_session.specs.declared.status.Status.TheVariants.{AllProved, SomeStuck, SomeSpent}
+use Rattle.aesop_session.specs.declared.status.Status.TheVariants.{AllProved}
 use Rattle.aesop_session.specs.Commands.{LfOptions}
-use Rattle.aesop_session.specs.Documents.{first_line, last_line, blocks_text, is_spent, is_stuck, status_of, AnswerTheorems, no_theorem, one_theorem, IsBlockText, WritesBlocks, WritesBlocksPrefix, WritesDocument, WritesDocumentPrefix, HasAnswers}
+use Rattle.aesop_session.specs.Documents.{first_line, last_line, blocks_text, status_of, AnswerTheorems, no_theorem, one_theorem, IsBlockText, WritesBlocks, WritesBlocksPrefix, WritesDocument, WritesDocumentPrefix, HasAnswers}
 
 -- ---- prefixes
 
@@ -36,39 +34,21 @@ pub AppendsPrefix-after : (held middle after : Option (List ℕ)) (done text : L
 AppendsPrefix-after held middle after done text a f =
     (done ++ f.0, (f.1.0, append_assoc done f.0 f.1.0 ∙ ap (λ (t : List ℕ). done ++ t) f.1.1), Appends-trans held middle after done f.0 a f.2)
 
--- ---- the status of more blocks
-
-status_by_tests : Bool → Bool → Status
-status_by_tests spent stuck = if spent then SomeSpent else (if stuck then SomeStuck else AllProved)
-
--- the status of some blocks and others by what is true of either
-abbrev pub joined : Status → Status → Status
-joined SomeSpent more = SomeSpent
-joined SomeStuck SomeSpent = SomeSpent
-joined SomeStuck _ = SomeStuck
-joined _ more = more
-
-joined-tests : (a b c d : Bool) → joined (status_by_tests a b) (status_by_tests c d) ≡ status_by_tests (a || c) (b || d)
-unfolding status_by_tests
-joined-tests true b c d = refl
-joined-tests false true true d = refl
-joined-tests false true false true = refl
-joined-tests false true false false = refl
-joined-tests false false c d = refl
-
-pub status_of-append : (blocks others : List LfBlock) → joined (status_of blocks) (status_of others) ≡ status_of (blocks ++ others)
-unfolding status_by_tests
-status_of-append blocks others =
-    let spent = λ (block : LfBlock). is_spent block.verdict in
-    let stuck = λ (block : LfBlock). is_stuck block.verdict in
-    joined-tests (list_any spent blocks) (list_any stuck blocks) (list_any spent others) (list_any stuck others)
-    ∙ ap (λ test. status_by_tests test (list_any stuck blocks || list_any stuck others)) (sym (list_any-append spent blocks others))
-    ∙ ap (λ test. status_by_tests (list_any spent (blocks ++ others)) test) (sym (list_any-append stuck blocks others))
+-- ---- parts of lists
 
 -- what of a list is left fits too
 All-rest_of : {X : Type 0} (P : X → Type 0) (xs ys : List X) → All P (xs ++ ys) → All P ys
 All-rest_of P [] ys all = all
 All-rest_of P (x ∷ xs) ys all = All-rest_of P xs ys (All-tail P x (xs ++ ys) all)
+
+pub mapped_more : {A B : Type 0} (f : A → B) (xs : List A) (i : ℕ) (x : A) → i < length xs → x ≡ get_or xs i x → map f (take i xs) ++ f x ∷ [] ≡ map f (take (i + 1) xs)
+mapped_more f xs i x within is =
+    sym (map-append f (take i xs) (x ∷ [])) ∙ ap (map f) (ap (λ y. take i xs ++ y ∷ []) is ∙ sym (take_more xs i x within))
+
+pub mapped_parts : {A B : Type 0} (f : A → B) (xs : List A) (i : ℕ) (x : A) → i < length xs → x ≡ get_or xs i x → map f xs ≡ map f (take i xs) ++ f x ∷ [] ++ map f (drop (i + 1) xs)
+mapped_parts f xs i x within is =
+    ap (map f) (sym (take-append-drop (i + 1) xs)) ∙ map-append f (take (i + 1) xs) (drop (i + 1) xs)
+    ∙ ap (λ ys. ys ++ map f (drop (i + 1) xs)) (sym (mapped_more f xs i x within is))
 
 module _ (b : LfBook) (options : LfOptions) where
   -- ---- blocks
@@ -192,17 +172,6 @@ module _ (b : LfBook) (options : LfOptions) where
           record { blocks = blocks.0; answers = blocks.1; text_is = refl; status_is = refl },
           AppendsPrefix-more held after (first_line options.budget ++ blocks_text b blocks.0) last_line (AppendsPrefix-more held after (first_line options.budget) (blocks_text b blocks.0) f),
         )
-
--- ---- what of a list was passed
-
-pub mapped_more : {A B : Type 0} (f : A → B) (xs : List A) (i : ℕ) (x : A) → i < length xs → x ≡ get_or xs i x → map f (take i xs) ++ f x ∷ [] ≡ map f (take (i + 1) xs)
-mapped_more f xs i x within is =
-    sym (map-append f (take i xs) (x ∷ [])) ∙ ap (map f) (ap (λ y. take i xs ++ y ∷ []) is ∙ sym (take_more xs i x within))
-
-pub mapped_parts : {A B : Type 0} (f : A → B) (xs : List A) (i : ℕ) (x : A) → i < length xs → x ≡ get_or xs i x → map f xs ≡ map f (take i xs) ++ f x ∷ [] ++ map f (drop (i + 1) xs)
-mapped_parts f xs i x within is =
-    ap (map f) (sym (take-append-drop (i + 1) xs)) ∙ map-append f (take (i + 1) xs) (drop (i + 1) xs)
-    ∙ ap (λ ys. ys ++ map f (drop (i + 1) xs)) (sym (mapped_more f xs i x within is))
 
 -- a theorem of a well-formed list has a well-formed type
 pub theorem_formed : (sig : LfSignature) (theorems : List Theorem) (i : ℕ) (x : Theorem) → AreFormed sig (map theorem_of theorems) → i < length theorems → x ≡ get_or theorems i x →

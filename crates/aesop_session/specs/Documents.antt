@@ -11,6 +11,7 @@ use Rattle.goal_book.specs.GoalBooks.{LfBook, rules_in, IsBookOf}
 use Rattle.right_answers.specs.Blocks.{LfVerdict, proved, stuck, spent, LfBlock}
 use Rattle.right_answers.specs.Right.{IsRight}
 use Rattle.right_answers.specs.Settled.{IsStillAnswer}
+use Rattle.right_answers.specs.Laws.{SaysOfDerivations}
 use Rattle.answer_text.specs.Texts.{line, block_text}
 use Rattle.aesop_session.specs.Commands.{LfOptions}
 use Rattle.aesop_session.specs.declared.status.Status.{Status}
@@ -26,10 +27,11 @@ last_line = line (codes "end")
 abbrev pub IsBookOfProgram : LfProgram → LfBook → Type 0
 IsBookOfProgram program b = IsBookOf program.signature program.book (map (λ rule. rule.set) program.book.rules) b
 
--- The block is what the still run answers for the theorem, and it is right.
+-- The block is what the still run answers for the theorem, and it is right: a theorem that is proved is derivable, and one that is stuck isn't.
 pub record AnswersTheorem (b : LfBook) (options : LfOptions) (theorem : LfTheorem) (block : LfBlock) : Type 0 where
   pub still : IsStillAnswer b.sig (rules_in b) theorem.type options.budget options.trace theorem.name block
   pub right : IsRight b.sig (rules_in b) options.budget theorem.type theorem.name block
+  pub derivations : SaysOfDerivations b.sig (rules_in b) theorem.type block.verdict
 
 -- One such block for each theorem, in order.
 pub data AnswerTheorems (b : LfBook) (options : LfOptions) : List LfTheorem → List LfBlock → Type 0 where

@@ -14,7 +14,7 @@ use crate::writing::{WriteFault, write_text};
 use basics::Bytes;
 use file_elab::Theorem;
 use goal_book::GoalBook;
-use right_answers::still_answers_are_unique;
+use right_answers::{right_answers_decide_derivability, still_answers_are_unique};
 use rule_problem::laws::types_over_books_are_theorems;
 use run_io::Sink;
 use std::alloc::{AllocError, Global};
@@ -64,6 +64,7 @@ fn theorems_have_answers(book: &GoalBook<'_>)
     book.sig().is_formed();
     types_over_books_are_theorems();
     still_answers_are_unique();
+    right_answers_decide_derivability();
 }
 
 /// The line that says the budget.

@@ -11,6 +11,7 @@ ghost use Rattle.goal_book.specs.GoalBooks.{rules_in};
 ghost use Rattle.meta_goals.specs.GoalsOf.{goals_of};
 ghost use Rattle.right_answers.specs.Right.{IsRight};
 ghost use Rattle.right_answers.specs.Settled.{IsStillAnswer, IsAnswerBy, IsVerdictBy, events_shown};
+ghost use Rattle.right_answers.specs.Laws.{SaysOfDerivations};
 ghost use Rattle.rule_problem.specs.Problems.{branches_in, IsNode};
 ghost use Rattle.tree_steps.specs.Trees.{IsTree};
 
@@ -22,7 +23,7 @@ use goal_book::{GoalBook, opening};
 use lf_terms::Ty;
 use meta_goals::Goals;
 use proof_extract::extract;
-use right_answers::still_answers_are_unique;
+use right_answers::{right_answers_decide_derivability, still_answers_are_unique};
 use rule_problem::laws::{branches_are_of_alternatives, types_over_books_are_theorems};
 use rule_problem::{RuleProblem, SeenGoals};
 use std::alloc::Global;
@@ -31,7 +32,8 @@ use tree_steps::{Journal, Problem, Root, Tree};
 use written_answers::right_blocks_are_writable;
 
 /// Searches for a proof of a theorem in the caller alone: the best open node is expanded until the root is decided or as many nodes as the budget are expanded. The block is what
-/// this run answers. The budget is at least 1, and the theorem's type is well formed. A number past its type is out of memory.
+/// this run answers; a theorem that is proved is derivable, and one that is stuck isn't. The budget is at least 1, and the theorem's type is well formed. A number past its type is
+/// out of memory.
 pub fn prove_theorem_still(
     alloc: Global,
     book: &GoalBook<'_>,
@@ -42,6 +44,7 @@ pub fn prove_theorem_still(
     requires formed { Formed (kinds_in book.now.sig) (typing_in book.now.sig [] []) (type_of theorem.now.ty) }
     ensures still { IfOk result (λ block. IsStillAnswer book.now.sig (rules_in book.now) (type_of theorem.now.ty) opts.now.budget opts.now.trace theorem.now.name (seen_block block)) }
     ensures right { IfOk result (λ block. IsRight book.now.sig (rules_in book.now) opts.now.budget (type_of theorem.now.ty) theorem.now.name (seen_block block)) }
+    ensures derivations { IfOk result (λ block. SaysOfDerivations book.now.sig (rules_in book.now) (type_of theorem.now.ty) (seen_block block).verdict) }
     ensures writable { IfOk result (λ block. IsWritable book.now.sig book.now.book (seen_block block)) }
 {
     book.is_formed();
@@ -49,6 +52,7 @@ pub fn prove_theorem_still(
     branches_are_of_alternatives();
     types_over_books_are_theorems();
     still_answers_are_unique();
+    right_answers_decide_derivability();
     right_blocks_are_writable();
     let problem = RuleProblem { alloc, book };
     let root = opening(alloc, &theorem.ty)?;

@@ -8,4 +8,6 @@ returns c = λ options theorem formed.
     let law = c.still_answers_are_unique.ensures c.args.book.now.sig (rules_in c.args.book.now) theorem.type
     (c.types_over_books_are_theorems.ensures c.args.book.now c.is_formed.ensures (subst FormedSignature c.sig.ensures c.is_formed-2.ensures) theorem.type formed)
     options.budget options.trace theorem.name in
-    (law.0.0, record { still = law.0.1; right = law.2 law.0.0 law.0.1 })
+    let right = law.2 law.0.0 law.0.1 in
+    let derivations = c.right_answers_decide_derivability.ensures c.args.book.now.sig (rules_in c.args.book.now) options.budget theorem.type theorem.name law.0.0 right in
+    (law.0.0, record { still = law.0.1; right = right; derivations = derivations })

@@ -25,6 +25,11 @@ returns-clause-right c =
     (c.types_over_books_are_theorems.ensures c.args.book.now c.is_formed.ensures (subst FormedSignature c.sig.ensures c.is_formed-2.ensures) (type_of c.args.theorem.now.ty) c.requires.formed)
     c.args.opts.now.budget c.args.opts.now.trace c.args.theorem.now.name).2 (seen_block c.in_ok-block.block) (returns-clause-still c)
 
+pub returns-clause-derivations : goal.returns-clause-derivations
+returns-clause-derivations c =
+    c.right_answers_decide_derivability.ensures c.args.book.now.sig _ c.args.opts.now.budget (type_of c.args.theorem.now.ty) c.args.theorem.now.name (seen_block c.in_ok-block.block)
+    (returns-clause-right c)
+
 pub returns-clause-writable : goal.returns-clause-writable
 returns-clause-writable c =
     c.right_blocks_are_writable.ensures c.args.book.now c.args.opts.now.budget (type_of c.args.theorem.now.ty) c.args.theorem.now.name (seen_block c.in_ok-block.block) (returns-clause-right c)
