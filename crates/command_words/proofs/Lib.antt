@@ -1,0 +1,5 @@
+pub mod ClapSteps
+pub mod ClapRows
+pub mod ClapWalks
+pub mod CommandWords
+pub mod CommandFacts
