@@ -1,15 +1,18 @@
 //! The program: it takes the words of the command line, standard input and standard output, and
-//! calls `run_still` of `aesop_session`, which does all the work.
+//! calls `run` of `aesop_session`, which does all the work.
 #![tactic(auto)]
 
 ghost use Rattle.std.specs.Prelude.{⊤};
 
-use aesop_session::{Status, run_still};
+use aesop_session::{Status, run};
 use basics::{Name, NoMemory, Words};
 use run_io::{StdSink, StdSource};
+use std::alloc::Global;
 use std::process::ExitCode;
-use std::thread::{Builder, Promise};
+use std::sync::Wait;
+use std::thread::{Builder, Promise, Threads};
 use std::{env, io};
+use tree_shared::Gate;
 
 /// Input and search nest deeply. The stack is taken only as it is used.
 const STACK: usize = 1 << 30;
@@ -20,6 +23,13 @@ struct SomeStatus;
 
 impl Promise<Status> for SomeStatus {
     ghost kept_by = { λ _ _. ⊤ };
+}
+
+/// A gate that does nothing.
+struct NoGate;
+
+impl Gate for NoGate {
+    fn between(&self, _seat: u32, _turn: u32) {}
 }
 
 /// The words of the command line without the program's name. Words that can't be had as text are
@@ -36,10 +46,10 @@ fn words(rt: &HostRuntime) -> Result<Words, NoMemory> {
 }
 
 /// Does what the words say, over standard input and standard output.
-fn serve(rt: &HostRuntime, words: &Words) -> Status {
+fn serve<R: Threads + Wait + Input + Print + Sync>(rt: &R, alloc: Global, words: &Words) -> Status {
     let mut source = StdSource::new(rt.reader());
     let mut sink = StdSink::new(io::writer(rt));
-    run_still(rt.alloc(), words, &mut source, &mut sink)
+    run(rt, alloc, words, &mut source, &mut sink, &NoGate)
 }
 
 fn main(rt: HostRuntime) -> ExitCode {
@@ -49,7 +59,7 @@ fn main(rt: HostRuntime) -> ExitCode {
     let Ok(here) = rt.clone() else {
         return ExitCode::from(Status::NoMemory.code());
     };
-    let work = move || serve(&here, &words);
+    let work = move || serve(&here, here.alloc(), &words);
     let status = match Builder::new()
         .stack_size(STACK)
         .spawn_with(&rt, SomeStatus, work)

@@ -11,7 +11,8 @@ use Rattle.right_answers.specs.Blocks.{LfBlock}
 use Rattle.aesop_session.specs.declared.status.Status.{Status}
 use Rattle.aesop_session.specs.declared.status.Status.TheVariants.{AllProved, SomeStuck, SomeSpent, FileRefused, Usage, TooLong, ReadFault, WriteFault, NoMemory, AnswersRefused}
 use Rattle.aesop_session.specs.declared.refusal.Refusal.{Refusal}
-use Rattle.aesop_session.specs.Commands.{LfOptions, IsProve}
+use Rattle.command_words.specs.Commands.{LfOptions}
+use Rattle.aesop_session.specs.Calls.{LfCall, IsServed}
 use Rattle.aesop_session.specs.Documents.{is_spent, is_stuck, status_of, IsBookOfProgram, IsDocumentBy, WritesDocument, WritesDocumentPrefix}
 use Rattle.aesop_session.specs.Refusals.{line_of}
 use Rattle.aesop_session.specs.Inputs.{TakesRefused}
@@ -34,16 +35,16 @@ of_blocks : (blocks : List LfBlock) (status : Status) → status ≡ status_of b
 of_blocks blocks status is = one_of_three (list_any (λ (block : LfBlock). is_spent block.verdict) blocks) (list_any (λ (block : LfBlock). is_stuck block.verdict) blocks) status is
 
 -- What an answer to a file is made of: the options of the words, the program of the bytes, and its book.
-pub record Answerable (words : List (List ℕ)) (left later : Option (List ℕ)) (options : LfOptions) (program : LfProgram) (b : LfBook) : Type 0 where
-  pub is_prove : IsProve words options
+pub record Answerable (call : LfCall) (words : List (List ℕ)) (left later : Option (List ℕ)) (options : LfOptions) (program : LfProgram) (b : LfBook) : Type 0 where
+  pub is_served : IsServed call words options
   pub taken : TakesProgram left later program
   pub is_book : IsBookOfProgram program b
 
-module _ (words : List (List ℕ)) (left later : Option (List ℕ)) (options : LfOptions) (program : LfProgram) (b : LfBook) (is : Answerable words left later options program b) where
-  proves_file : (status : Status) (text : List ℕ) → IsDocumentBy b options program.theorems status text → ProvesFile words left later status text
-  proves_file status text d = (options, is.is_prove, record { program = program; taken = is.taken; document = record { b = b; is_book = is.is_book; by_book = d } })
+module _ (call : LfCall) (words : List (List ℕ)) (left later : Option (List ℕ)) (options : LfOptions) (program : LfProgram) (b : LfBook) (is : Answerable call words left later options program b) where
+  proves_file : (status : Status) (text : List ℕ) → IsDocumentBy b options program.theorems status text → ProvesFile call words left later status text
+  proves_file status text d = (options, is.is_served, record { program = program; taken = is.taken; document = record { b = b; is_book = is.is_book; by_book = d } })
 
-  whole_answer : (status : Status) (text : List ℕ) → IsOfDocument status → ProvesFile words left later status text → IsWholeAnswer words left later status text
+  whole_answer : (status : Status) (text : List ℕ) → IsOfDocument status → ProvesFile call words left later status text → IsWholeAnswer call words left later status text
   whole_answer AllProved text of p = p
   whole_answer SomeStuck text of p = p
   whole_answer SomeSpent text of p = p
@@ -55,11 +56,11 @@ module _ (words : List (List ℕ)) (left later : Option (List ℕ)) (options : L
   whole_answer NoMemory text of p = absurd of
   whole_answer AnswersRefused text of p = absurd of
 
-  is_answer : (status : Status) (text : List ℕ) → IsDocumentBy b options program.theorems status text → IsWholeAnswer words left later status text
+  is_answer : (status : Status) (text : List ℕ) → IsDocumentBy b options program.theorems status text → IsWholeAnswer call words left later status text
   is_answer status text d = whole_answer status text (of_blocks d.blocks status d.status_is) (proves_file status text d)
 
   module _ (held after : Option (List ℕ)) where
-    answered_by : (status : Status) → IsOfDocument status → ((text : List ℕ) × IsWholeAnswer words left later status text × Appends held after text) → Answered words left later held after status
+    answered_by : (status : Status) → IsOfDocument status → ((text : List ℕ) × IsWholeAnswer call words left later status text × Appends held after text) → Answered call words left later held after status
     answered_by AllProved of a = a
     answered_by SomeStuck of a = a
     answered_by SomeSpent of a = a
@@ -72,11 +73,11 @@ module _ (words : List (List ℕ)) (left later : Option (List ℕ)) (options : L
     answered_by AnswersRefused of a = absurd of
 
     -- a document that was written whole is the answer of its status
-    pub Answered-document : (status : Status) → WritesDocument b options program.theorems held after status → Answered words left later held after status
+    pub Answered-document : (status : Status) → WritesDocument b options program.theorems held after status → Answered call words left later held after status
     Answered-document status w = answered_by status (of_blocks w.1.blocks status w.1.status_is) (w.0, is_answer status w.0 w.1, w.2)
 
     -- a prefix of a document is a prefix of the answer of its status
-    pub TakesPrefix-document : WritesDocumentPrefix b options program.theorems held after → TakesPrefix words left later held after
+    pub TakesPrefix-document : WritesDocumentPrefix b options program.theorems held after → TakesPrefix call words left later held after
     TakesPrefix-document w = (w.0, w.1, is_answer w.0 w.1 w.2, w.3)
 
 -- the status of a document is no fault

@@ -18,7 +18,7 @@ use Rattle.right_answers.specs.Blocks.{LfBlock}
 use Rattle.answer_text.specs.Texts.{block_text}
 use Rattle.aesop_session.specs.declared.status.Status.{Status}
 use Rattle.aesop_session.specs.declared.status.Status.TheVariants.{AllProved}
-use Rattle.aesop_session.specs.Commands.{LfOptions}
+use Rattle.command_words.specs.Commands.{LfOptions}
 use Rattle.aesop_session.specs.Documents.{first_line, last_line, blocks_text, status_of, AnswerTheorems, no_theorem, one_theorem, IsBlockText, WritesBlocks, WritesBlocksPrefix, WritesDocument, WritesDocumentPrefix, HasAnswers}
 
 -- ---- prefixes

@@ -5,7 +5,8 @@ use Rattle.file_elab.specs.Programs.{LfProgram}
 use Rattle.aesop_session.specs.declared.refusal.RefusalKind.{RefusalKind}
 use Rattle.aesop_session.specs.declared.status.Status.{Status}
 use Rattle.aesop_session.specs.declared.status.Status.TheVariants.{AllProved, SomeStuck, SomeSpent, FileRefused, Usage, TooLong, ReadFault, WriteFault, NoMemory, AnswersRefused}
-use Rattle.aesop_session.specs.Commands.{LfOptions, IsProveCommand}
+use Rattle.command_words.specs.Commands.{LfOptions}
+use Rattle.aesop_session.specs.Calls.{LfCall, IsServedCommand}
 use Rattle.aesop_session.specs.Refusals.{IsAccepted, RefusesText}
 use Rattle.basics.specs.Limits.{most_input}
 use Rattle.aesop_session.specs.Answers.{AnswersFile, ProvesFile, RefusesFile, Answered, Served, Refused, Overlong, IsStatusFor}
@@ -35,8 +36,8 @@ answered_input options input later status text a =
       fits = subst (λ bytes. length bytes ≤ most_input) same a.taken.2;
     }
 
-proved_input : (words : List (List ℕ)) (input : List ℕ) (later : Option (List ℕ)) (status : Status) (text : List ℕ) → ProvesFile words (Some input) later status text → AcceptedInput input
-proved_input words input later status text a = answered_input a.0 input later status text a.2
+proved_input : (call : LfCall) (words : List (List ℕ)) (input : List ℕ) (later : Option (List ℕ)) (status : Status) (text : List ℕ) → ProvesFile call words (Some input) later status text → AcceptedInput input
+proved_input call words input later status text a = answered_input a.0 input later status text a.2
 
 record RefusedInput (input : List ℕ) : Type 0 where
   place : ℕ
@@ -61,15 +62,15 @@ not_both input a r = IsAccepted-not_refused r.kind input a.program r.place a.acc
 too_long : (input : List ℕ) → most_input < length input → length input ≤ most_input → ⊥
 too_long input more fits = omega (arith, more, fits)
 
--- Where nothing fails, the words are a command that proves a file and the source had this input.
-record Faultless (words : List (List ℕ)) (input : List ℕ) (later held after : Option (List ℕ)) (status : Status) : Type 0 where
-  command : IsProveCommand words
-  answered : Answered words (Some input) later held after status
+-- Where nothing fails, the words are a command that the call serves and the source had this input.
+record Faultless (call : LfCall) (words : List (List ℕ)) (input : List ℕ) (later held after : Option (List ℕ)) (status : Status) : Type 0 where
+  command : IsServedCommand call words
+  answered : Answered call words (Some input) later held after status
   no_read_fault : status ≡ ReadFault → ⊥
   no_write_fault : status ≡ WriteFault → ⊥
 
-module _ (words : List (List ℕ)) (input : List ℕ) (later held after : Option (List ℕ)) where
-  served_status : (status : Status) → Faultless words input later held after status → AcceptedInput input → Served status
+module _ (call : LfCall) (words : List (List ℕ)) (input : List ℕ) (later held after : Option (List ℕ)) where
+  served_status : (status : Status) → Faultless call words input later held after status → AcceptedInput input → Served status
   served_status AllProved f a = tt
   served_status SomeStuck f a = tt
   served_status SomeSpent f a = tt
@@ -81,10 +82,10 @@ module _ (words : List (List ℕ)) (input : List ℕ) (later held after : Option
   served_status NoMemory f a = tt
   served_status AnswersRefused f a = f.answered.1
 
-  refused_status : (status : Status) → Faultless words input later held after status → RefusedInput input → Refused status
-  refused_status AllProved f r = not_both input (proved_input words input later AllProved f.answered.0 f.answered.1) r
-  refused_status SomeStuck f r = not_both input (proved_input words input later SomeStuck f.answered.0 f.answered.1) r
-  refused_status SomeSpent f r = not_both input (proved_input words input later SomeSpent f.answered.0 f.answered.1) r
+  refused_status : (status : Status) → Faultless call words input later held after status → RefusedInput input → Refused status
+  refused_status AllProved f r = not_both input (proved_input call words input later AllProved f.answered.0 f.answered.1) r
+  refused_status SomeStuck f r = not_both input (proved_input call words input later SomeStuck f.answered.0 f.answered.1) r
+  refused_status SomeSpent f r = not_both input (proved_input call words input later SomeSpent f.answered.0 f.answered.1) r
   refused_status FileRefused f r = tt
   refused_status Usage f r = f.answered.1.0 f.command
   refused_status TooLong f r = too_long input (more_taken input later f.answered.1.1) r.fits
@@ -93,10 +94,10 @@ module _ (words : List (List ℕ)) (input : List ℕ) (later held after : Option
   refused_status NoMemory f r = tt
   refused_status AnswersRefused f r = f.answered.1
 
-  overlong_status : (status : Status) → Faultless words input later held after status → most_input < length input → Overlong status
-  overlong_status AllProved f more = too_long input more (proved_input words input later AllProved f.answered.0 f.answered.1).fits
-  overlong_status SomeStuck f more = too_long input more (proved_input words input later SomeStuck f.answered.0 f.answered.1).fits
-  overlong_status SomeSpent f more = too_long input more (proved_input words input later SomeSpent f.answered.0 f.answered.1).fits
+  overlong_status : (status : Status) → Faultless call words input later held after status → most_input < length input → Overlong status
+  overlong_status AllProved f more = too_long input more (proved_input call words input later AllProved f.answered.0 f.answered.1).fits
+  overlong_status SomeStuck f more = too_long input more (proved_input call words input later SomeStuck f.answered.0 f.answered.1).fits
+  overlong_status SomeSpent f more = too_long input more (proved_input call words input later SomeSpent f.answered.0 f.answered.1).fits
   overlong_status FileRefused f more = too_long input more (refused_input input later f.answered.0 f.answered.1.1).fits
   overlong_status Usage f more = f.answered.1.0 f.command
   overlong_status TooLong f more = tt
@@ -106,11 +107,11 @@ module _ (words : List (List ℕ)) (input : List ℕ) (later held after : Option
   overlong_status AnswersRefused f more = f.answered.1
 
   -- where nothing fails the input has its status
-  pub Answered-forced : (status : Status) (left : Option (List ℕ)) → IsProveCommand words → left ≡ Some input → Answered words left later held after status →
+  pub Answered-forced : (status : Status) (left : Option (List ℕ)) → IsServedCommand call words → left ≡ Some input → Answered call words left later held after status →
       (status ≡ ReadFault → ⊥) → (status ≡ WriteFault → ⊥) → IsStatusFor input status
   Answered-forced status left command tells answered no_read no_write =
-      let f : Faultless words input later held after status =
-      record { command = command; answered = subst (λ l. Answered words l later held after status) tells answered; no_read_fault = no_read; no_write_fault = no_write } in
+      let f : Faultless call words input later held after status =
+      record { command = command; answered = subst (λ l. Answered call words l later held after status) tells answered; no_read_fault = no_read; no_write_fault = no_write } in
       record {
         accepted = λ program fits accepted. served_status status f (record { program = program; accepted = accepted; fits = fits });
         refused = λ place kind fits refused. refused_status status f (record { place = place; kind = kind; refused = refused; fits = fits });

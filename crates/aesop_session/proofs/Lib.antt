@@ -2,5 +2,6 @@ pub mod Completion
 pub mod Answering
 pub mod Exclusions
 pub mod ForcedStatuses
-mod CommandWords
+mod ServedCommands
+mod SharedAnswers
 mod RuleSets

@@ -1,4 +1,4 @@
--- What the top call answers: each status, with what was read and written.
+-- What the top calls answer: each status, with what was read and written.
 use Rattle.std.specs.Prelude.{◌≡◌, ℕ, ◌<◌, ◌≤◌, ◌⊎◌, length, List, codes, Option}
 use Rattle.std.specs.Io.KnownBytes.{Keeps, Appends}
 use Rattle.basics.specs.Limits.{most_input}
@@ -7,7 +7,8 @@ use Rattle.file_elab.specs.Programs.{LfProgram}
 use Rattle.aesop_session.specs.declared.refusal.RefusalKind.{RefusalKind}
 use Rattle.aesop_session.specs.declared.status.Status.{Status}
 use Rattle.aesop_session.specs.declared.status.Status.TheVariants.{AllProved, SomeStuck, SomeSpent, FileRefused, Usage, TooLong, ReadFault, WriteFault, NoMemory}
-use Rattle.aesop_session.specs.Commands.{LfOptions, IsProve, IsProveCommand}
+use Rattle.command_words.specs.Commands.{LfOptions}
+use Rattle.aesop_session.specs.Calls.{LfCall, IsServed, IsServedCommand}
 use Rattle.answer_text.specs.Texts.{line}
 use Rattle.aesop_session.specs.Documents.{IsDocument}
 use Rattle.aesop_session.specs.Refusals.{IsAccepted, RefusesText, IsRefusedAs}
@@ -28,35 +29,37 @@ pub record AnswersFile (options : LfOptions) (left later : Option (List ℕ)) (s
   pub taken : TakesProgram left later program
   pub document : IsDocument program options status text
 
--- The words are the command that proves a file, with some options, and the text is a document for it.
-abbrev pub ProvesFile : List (List ℕ) → (left later : Option (List ℕ)) → Status → (text : List ℕ) → Type 0
-ProvesFile words left later status text = (options : LfOptions) × IsProve words options × AnswersFile options left later status text
+-- The words are a command that the call serves, with some options, and the text is a document for it.
+abbrev pub ProvesFile : LfCall → List (List ℕ) → (left later : Option (List ℕ)) → Status → (text : List ℕ) → Type 0
+ProvesFile call words left later status text = (options : LfOptions) × IsServed call words options × AnswersFile options left later status text
 
 -- What was read is refused, and the text is the line that says so.
 abbrev pub RefusesFile : (left later : Option (List ℕ)) → (text : List ℕ) → Type 0
 RefusesFile left later text = (input : List ℕ) × TakesAll left later input × (length input ≤ most_input) × IsRefusedAs input text
 
--- The text is the whole answer of this status to the words, where the source had the one left before and has
+-- The text is the whole answer of this status to the words by the call, where the source had the one left before and has
 -- the other left after.
-abbrev pub IsWholeAnswer : List (List ℕ) → Option (List ℕ) → Option (List ℕ) → Status → List ℕ → Type 0
-IsWholeAnswer words left later AllProved text = ProvesFile words left later AllProved text
-IsWholeAnswer words left later SomeStuck text = ProvesFile words left later SomeStuck text
-IsWholeAnswer words left later SomeSpent text = ProvesFile words left later SomeSpent text
-IsWholeAnswer words left later FileRefused text = IsProveCommand words × RefusesFile left later text
-IsWholeAnswer words left later TooLong text = IsProveCommand words × TakesMoreThan most_input left later × (text ≡ too_long_line)
-IsWholeAnswer words left later Usage text = (IsProveCommand words → ⊥) × Keeps left later × (text ≡ usage_line)
-IsWholeAnswer words left later _ text = ⊥
+abbrev pub IsWholeAnswer : LfCall → List (List ℕ) → Option (List ℕ) → Option (List ℕ) → Status → List ℕ → Type 0
+IsWholeAnswer call words left later AllProved text = ProvesFile call words left later AllProved text
+IsWholeAnswer call words left later SomeStuck text = ProvesFile call words left later SomeStuck text
+IsWholeAnswer call words left later SomeSpent text = ProvesFile call words left later SomeSpent text
+IsWholeAnswer call words left later FileRefused text = IsServedCommand call words × RefusesFile left later text
+IsWholeAnswer call words left later TooLong text = IsServedCommand call words × TakesMoreThan most_input left later × (text ≡ too_long_line)
+IsWholeAnswer call words left later Usage text = (IsServedCommand call words → ⊥) × Keeps left later × (text ≡ usage_line)
+IsWholeAnswer call words left later _ text = ⊥
 
 -- The sink took a prefix of the whole answer of some status.
-abbrev pub TakesPrefix : List (List ℕ) → (left later held after : Option (List ℕ)) → Type 0
-TakesPrefix words left later held after = (status : Status) × (text : List ℕ) × IsWholeAnswer words left later status text × AppendsPrefix held after text
+abbrev pub TakesPrefix : LfCall → List (List ℕ) → (left later held after : Option (List ℕ)) → Type 0
+TakesPrefix call words left later held after = (status : Status) × (text : List ℕ) × IsWholeAnswer call words left later status text × AppendsPrefix held after text
 
--- What each status says of the source and the sink.
-abbrev pub Answered : List (List ℕ) → (left later held after : Option (List ℕ)) → Status → Type 0
-Answered words left later held after ReadFault = IsProveCommand words × TakesAtMost most_input left later × Keeps held after
-Answered words left later held after WriteFault = TakesPrefix words left later held after
-Answered words left later held after NoMemory = (IsProveCommand words × TakesAtMost most_input left later × Keeps held after) ⊎ TakesPrefix words left later held after
-Answered words left later held after status = (text : List ℕ) × IsWholeAnswer words left later status text × Appends held after text
+-- What each status says of the source and the sink. Where memory ran out, nothing was read and nothing written, or nothing was written, or a prefix of an answer.
+abbrev pub Answered : LfCall → List (List ℕ) → (left later held after : Option (List ℕ)) → Status → Type 0
+Answered call words left later held after ReadFault = IsServedCommand call words × TakesAtMost most_input left later × Keeps held after
+Answered call words left later held after WriteFault = TakesPrefix call words left later held after
+Answered call words left later held after NoMemory =
+    (Keeps left later × Keeps held after)
+    ⊎ ((IsServedCommand call words × TakesAtMost most_input left later × Keeps held after) ⊎ TakesPrefix call words left later held after)
+Answered call words left later held after status = (text : List ℕ) × IsWholeAnswer call words left later status text × Appends held after text
 
 -- The file was answered, or memory ran out.
 abbrev pub Served : Status → Type 0

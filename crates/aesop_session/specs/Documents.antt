@@ -10,10 +10,10 @@ use Rattle.file_elab.specs.Programs.{LfProgram}
 use Rattle.goal_book.specs.GoalBooks.{LfBook, rules_in, IsBookOf}
 use Rattle.right_answers.specs.Blocks.{LfVerdict, proved, stuck, spent, LfBlock}
 use Rattle.right_answers.specs.Right.{IsRight}
-use Rattle.right_answers.specs.Settled.{IsStillAnswer}
 use Rattle.right_answers.specs.Laws.{SaysOfDerivations}
 use Rattle.answer_text.specs.Texts.{line, block_text}
-use Rattle.aesop_session.specs.Commands.{LfOptions}
+use Rattle.command_words.specs.Commands.{LfOptions}
+use Rattle.theorem_search.specs.Answers.{IsAnswerOf}
 use Rattle.aesop_session.specs.declared.status.Status.{Status}
 use Rattle.aesop_session.specs.declared.status.Status.TheVariants.{AllProved, SomeStuck, SomeSpent}
 
@@ -27,9 +27,9 @@ last_line = line (codes "end")
 abbrev pub IsBookOfProgram : LfProgram → LfBook → Type 0
 IsBookOfProgram program b = IsBookOf program.signature program.book (map (λ rule. rule.set) program.book.rules) b
 
--- The block is what the still run answers for the theorem, and it is right: a theorem that is proved is derivable, and one that is stuck isn't.
+-- The block is what so many workers answer for the theorem, and it is right: a theorem that is proved is derivable, and one that is stuck isn't.
 pub record AnswersTheorem (b : LfBook) (options : LfOptions) (theorem : LfTheorem) (block : LfBlock) : Type 0 where
-  pub still : IsStillAnswer b.sig (rules_in b) theorem.type options.budget options.trace theorem.name block
+  pub answer : IsAnswerOf b.sig (rules_in b) theorem.type options.budget options.trace theorem.name options.workers block
   pub right : IsRight b.sig (rules_in b) options.budget theorem.type theorem.name block
   pub derivations : SaysOfDerivations b.sig (rules_in b) theorem.type block.verdict
 

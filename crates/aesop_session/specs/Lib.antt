@@ -1,5 +1,5 @@
 pub mod Statuses
-pub mod Commands
+pub mod Calls
 pub mod Documents
 pub mod Refusals
 pub mod Answers

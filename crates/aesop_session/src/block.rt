@@ -7,22 +7,24 @@ ghost use Rattle.lf_definitions.specs.Signatures.{kinds_in, typing_in};
 ghost use Rattle.lf_terms.specs.Types.{type_of};
 ghost use Rattle.file_elab.specs.ProgramViews.{theorem_of};
 ghost use Rattle.answer_text.specs.Seen.{seen_block};
-ghost use Rattle.aesop_session.specs.Commands.{options_of};
+ghost use Rattle.command_words.specs.Commands.{options_of};
 ghost use Rattle.aesop_session.specs.Documents.{status_of, IsBlockText, WritesBlocks, WritesBlocksPrefix};
 
+use crate::prover::Prover;
 use crate::status::Status;
 use crate::writing::{WriteFault, write_text};
 use answer_text::{Block, Verdict, write_block};
 use basics::{Bytes, NoMemory};
+use command_words::Opts;
 use file_elab::Theorem;
 use goal_book::GoalBook;
 use run_io::Sink;
 use std::alloc::Global;
-use theorem_search::{Opts, prove_theorem_still};
 
 /// Answers a theorem, and writes its block as one piece. The status is that of the block.
-pub(crate) fn answer_theorem<K: Sink>(
+pub(crate) fn answer_theorem<B: Prover, K: Sink>(
     alloc: Global,
+    prover: &B,
     book: &GoalBook<'_>,
     theorem: &Theorem,
     opts: &Opts,
@@ -30,6 +32,7 @@ pub(crate) fn answer_theorem<K: Sink>(
     sink: &mut K,
 ) -> Result<Status, WriteFault>
     requires budget { 0 < opts.now.budget }
+    requires serves { B.serves prover.now (options_of opts.now) }
     requires formed { Formed (kinds_in book.now.sig) (typing_in book.now.sig [] []) (type_of theorem.now.ty) }
     ensures ok { IfOk result (WritesBlocks book.now (options_of opts.now) (theorem_of theorem.now ∷ []) (K.held sink.old) (K.held sink.new)) }
     ensures err { OnErr result (WritesBlocksPrefix book.now (options_of opts.now) (theorem_of theorem.now ∷ []) (K.held sink.old) (K.held sink.new)) }
@@ -38,7 +41,7 @@ pub(crate) fn answer_theorem<K: Sink>(
     ensures faults_later { K.faults sink.old ≤ K.faults sink.new }
     ensures zeros_later { K.zeros sink.old ≤ K.zeros sink.new }
 {
-    let status = match put_block(alloc, book, theorem, opts, text) {
+    let status = match put_block(alloc, prover, book, theorem, opts, text) {
         Ok(status) => status,
         Err(_) => return Err(WriteFault::NoMemory),
     };
@@ -49,18 +52,20 @@ pub(crate) fn answer_theorem<K: Sink>(
 }
 
 /// Answers a theorem, and puts the text of its block in the place of what `text` has. The status is that of the block.
-fn put_block(
+fn put_block<B: Prover>(
     alloc: Global,
+    prover: &B,
     book: &GoalBook<'_>,
     theorem: &Theorem,
     opts: &Opts,
     text: &mut Bytes,
 ) -> Result<Status, NoMemory>
     requires budget { 0 < opts.now.budget }
+    requires serves { B.serves prover.now (options_of opts.now) }
     requires formed { Formed (kinds_in book.now.sig) (typing_in book.now.sig [] []) (type_of theorem.now.ty) }
     ensures { IfOk result (λ status. IsBlockText book.now (options_of opts.now) (theorem_of theorem.now) status text.new) }
 {
-    let block = prove_theorem_still(alloc, book, theorem, opts)?;
+    let block = prover.prove(alloc, book, theorem, opts)?;
     text.clear();
     write_block(book.sig(), book.rules(), &block, text)?;
     Ok(status_by(&block))

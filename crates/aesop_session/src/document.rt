@@ -5,31 +5,34 @@ ghost use Rattle.run_io.specs.Causes.{Rose};
 ghost use Rattle.file_elab.specs.ProgramViews.{theorem_of};
 ghost use Rattle.file_elab.specs.Theorems.{AreFormed};
 ghost use Rattle.right_answers.specs.Blocks.{LfBlock};
-ghost use Rattle.aesop_session.specs.Commands.{options_of};
+ghost use Rattle.command_words.specs.Commands.{options_of};
 ghost use Rattle.aesop_session.specs.Documents.{first_line, status_of, HasAnswers, WritesBlocks, WritesBlocksPrefix, WritesDocument, WritesDocumentPrefix};
 
 use crate::block::answer_theorem;
+use crate::prover::Prover;
 use crate::status::Status;
 use crate::writing::{WriteFault, write_text};
 use basics::Bytes;
+use command_words::Opts;
 use file_elab::Theorem;
 use goal_book::GoalBook;
 use right_answers::{right_answers_decide_derivability, still_answers_are_unique};
 use rule_problem::laws::types_over_books_are_theorems;
 use run_io::Sink;
 use std::alloc::{AllocError, Global};
-use theorem_search::Opts;
 
 /// Writes the answers for theorems by a book: the first line, then the block of each theorem in order, as soon as it is answered, and
 /// the last line, each as one piece. The status says whether a block is spent, or else whether one is stuck.
-pub(crate) fn write_document<K: Sink>(
+pub(crate) fn write_document<B: Prover, K: Sink>(
     alloc: Global,
+    prover: &B,
     book: &GoalBook<'_>,
     theorems: &[Theorem],
     opts: &Opts,
     sink: &mut K,
 ) -> Result<Status, WriteFault>
     requires budget { 0 < opts.now.budget }
+    requires serves { B.serves prover.now (options_of opts.now) }
     requires formed { AreFormed book.now.sig (map theorem_of theorems.now) }
     ensures ok { IfOk result (WritesDocument book.now (options_of opts.now) (map theorem_of theorems.now) (K.held sink.old) (K.held sink.new)) }
     ensures err { OnErr result (WritesDocumentPrefix book.now (options_of opts.now) (map theorem_of theorems.now) (K.held sink.old) (K.held sink.new)) }
@@ -46,7 +49,7 @@ pub(crate) fn write_document<K: Sink>(
     if let Err(stop) = write_text(sink, line.as_bytes()) {
         return Err(stop);
     }
-    let status = match write_blocks(alloc, book, theorems, opts, sink) {
+    let status = match write_blocks(alloc, prover, book, theorems, opts, sink) {
         Ok(status) => status,
         Err(stop) => return Err(stop),
     };
@@ -76,14 +79,16 @@ fn first_line(alloc: Global, budget: u32) -> Result<String, AllocError>
 }
 
 /// Answers theorems in order, and writes the block of each as one piece.
-fn write_blocks<K: Sink>(
+fn write_blocks<B: Prover, K: Sink>(
     alloc: Global,
+    prover: &B,
     book: &GoalBook<'_>,
     theorems: &[Theorem],
     opts: &Opts,
     sink: &mut K,
 ) -> Result<Status, WriteFault>
     requires budget { 0 < opts.now.budget }
+    requires serves { B.serves prover.now (options_of opts.now) }
     requires formed { AreFormed book.now.sig (map theorem_of theorems.now) }
     ensures ok { IfOk result (WritesBlocks book.now (options_of opts.now) (map theorem_of theorems.now) (K.held sink.old) (K.held sink.new)) }
     ensures err { OnErr result (WritesBlocksPrefix book.now (options_of opts.now) (map theorem_of theorems.now) (K.held sink.old) (K.held sink.new)) }
@@ -95,7 +100,7 @@ fn write_blocks<K: Sink>(
     let mut text = Bytes::new(alloc);
     let mut status = Status::AllProved;
     for theorem in theorems {
-        match answer_theorem(alloc, book, theorem, opts, &mut text, sink) {
+        match answer_theorem(alloc, prover, book, theorem, opts, &mut text, sink) {
             Ok(more) => status = joined(status, more),
             Err(stop) => return Err(stop),
         }

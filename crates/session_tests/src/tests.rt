@@ -72,8 +72,6 @@ fn command_lines() -> &'static str {
 prove => 4/usage: aesop prove [--workers N] [--budget N] [--trace] | check | gen N | big N/
 prove --workers => 4/usage: aesop prove [--workers N] [--budget N] [--trace] | check | gen N | big N/
 prove --workers 1 => 4/usage: aesop prove [--workers N] [--budget N] [--trace] | check | gen N | big N/
-prove --workers 00 => 4/usage: aesop prove [--workers N] [--budget N] [--trace] | check | gen N | big N/
-prove --workers=0 => 4/usage: aesop prove [--workers N] [--budget N] [--trace] | check | gen N | big N/
 prove --workers 0 --budget => 4/usage: aesop prove [--workers N] [--budget N] [--trace] | check | gen N | big N/
 prove --workers 0 --budget 0 => 4/usage: aesop prove [--workers N] [--budget N] [--trace] | check | gen N | big N/
 prove --workers 0 --budget 50001 => 4/usage: aesop prove [--workers N] [--budget N] [--trace] | check | gen N | big N/
@@ -81,7 +79,6 @@ prove --workers 0 --budget 000001 => 4/usage: aesop prove [--workers N] [--budge
 prove --workers 0 --budget -1 => 4/usage: aesop prove [--workers N] [--budget N] [--trace] | check | gen N | big N/
 prove --workers 0 --budget 1x => 4/usage: aesop prove [--workers N] [--budget N] [--trace] | check | gen N | big N/
 prove --workers 0 --trace --trace => 4/usage: aesop prove [--workers N] [--budget N] [--trace] | check | gen N | big N/
-prove --workers 0 --trace --budget 3 => 4/usage: aesop prove [--workers N] [--budget N] [--trace] | check | gen N | big N/
 prove --workers 0 --budget 3 --budget 3 => 4/usage: aesop prove [--workers N] [--budget N] [--trace] | check | gen N | big N/
 prove --trace => 4/usage: aesop prove [--workers N] [--budget N] [--trace] | check | gen N | big N/
 --workers 0 => 4/usage: aesop prove [--workers N] [--budget N] [--trace] | check | gen N | big N/
@@ -94,7 +91,10 @@ prove --workers 0 --trace => 3/refused at 6: expected/
 prove --workers 0 --budget 1 => 3/refused at 6: expected/
 prove --workers 0 --budget 50000 => 3/refused at 6: expected/
 prove --workers 0 --budget 00007 => 3/refused at 6: expected/
-prove --workers 0 --budget 1000 --trace => 3/refused at 6: expected/"
+prove --workers 0 --budget 1000 --trace => 3/refused at 6: expected/
+prove --workers 0 --trace --budget 3 => 3/refused at 6: expected/
+prove --workers=0 => 3/refused at 6: expected/
+prove --workers 00 => 3/refused at 6: expected/"
 }
 
 /// Ends that fail.

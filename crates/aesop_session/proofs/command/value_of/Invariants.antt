@@ -1,6 +1,0 @@
-use Rattle.std.proofs.Common.{◌≡◌, ◌<◌, ◌^◌, take}
-use Rattle.aesop_session.specs.Commands.{number_of}
-use Rattle.aesop_session.proofs.command.value_of.Given as goal
-
-abbrev pub invariant-loop-digit : goal.invariant-loop-digit
-invariant-loop-digit l = record { value : l.number ≡ number_of (take l.digit-index l.word); small : l.number < 10 ^ l.digit-index }
