@@ -7,7 +7,7 @@ ghost use Rattle.lf_definitions.specs.Signatures.{kinds_in, typing_in};
 ghost use Rattle.lf_terms.specs.Types.{type_of};
 ghost use Rattle.file_elab.specs.ProgramViews.{theorem_of};
 ghost use Rattle.answer_text.specs.Seen.{seen_block};
-ghost use Rattle.command_words.specs.Commands.{options_of};
+ghost use Rattle.command_words.specs.Given.{options_of};
 ghost use Rattle.aesop_session.specs.Documents.{status_of, IsBlockText, WritesBlocks, WritesBlocksPrefix};
 
 use crate::prover::Prover;

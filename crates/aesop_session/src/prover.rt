@@ -7,7 +7,8 @@ ghost use Rattle.lf_terms.specs.Types.{type_of};
 ghost use Rattle.file_elab.specs.ProgramViews.{theorem_of};
 ghost use Rattle.answer_text.specs.Seen.{seen_block};
 ghost use Rattle.answer_text.specs.Writable.{IsWritable};
-ghost use Rattle.command_words.specs.Commands.{LfOptions, options_of};
+ghost use Rattle.command_words.specs.Commands.{LfOptions};
+ghost use Rattle.command_words.specs.Given.{options_of};
 ghost use Rattle.aesop_session.specs.Documents.{AnswersTheorem};
 
 use answer_text::Block;
@@ -73,7 +74,7 @@ impl<F: Fn(&GoalBook<'_>, &Theorem, &Opts) -> Result<Block, NoMemory>> Prover fo
     ghost use Rattle.file_elab.specs.ProgramViews.{theorem_of};
     ghost use Rattle.answer_text.specs.Seen.{seen_block};
     ghost use Rattle.answer_text.specs.Writable.{IsWritable};
-    ghost use Rattle.command_words.specs.Commands.{options_of};
+    ghost use Rattle.command_words.specs.Given.{options_of};
     ghost use Rattle.aesop_session.specs.Documents.{AnswersTheorem};
 
     // With these options the call may be made for each theorem, and what it returns is an answer.

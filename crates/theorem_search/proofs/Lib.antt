@@ -1,1 +1,3 @@
 mod StillRuns
+mod SharedRuns
+mod Crossing

@@ -1,6 +1,6 @@
 use Rattle.std.proofs.Common.{subst, sym}
 use Rattle.file_elab.specs.ProgramViews.{theorem_of}
-use Rattle.command_words.specs.Commands.{options_of}
+use Rattle.command_words.specs.Given.{options_of}
 use Rattle.aesop_session.specs.Documents.{IsBlockText}
 use Rattle.aesop_session.proofs.Completion.{WritesBlocks-one, WritesBlocksPrefix-one, WritesBlocksPrefix-none}
 use Rattle.aesop_session.proofs.block.answer_theorem.Goals as goal

@@ -1,6 +1,6 @@
 use Rattle.std.proofs.Common.{subst, arith}
 use Rattle.file_elab.specs.ProgramViews.{theorem_of}
-use Rattle.command_words.specs.Commands.{options_of}
+use Rattle.command_words.specs.Given.{options_of}
 use Rattle.aesop_session.specs.Documents.{WritesBlocks}
 use Rattle.aesop_session.proofs.Completion.{WritesBlocks-none, WritesBlocks-append, WritesBlocksPrefix-append, mapped_more, mapped_parts, theorem_formed}
 use Rattle.aesop_session.proofs.document.write_blocks.Goals as goal

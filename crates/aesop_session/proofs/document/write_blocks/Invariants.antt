@@ -1,6 +1,6 @@
 use Rattle.std.proofs.Common.{◌≤◌, map, take}
 use Rattle.file_elab.specs.ProgramViews.{theorem_of}
-use Rattle.command_words.specs.Commands.{options_of}
+use Rattle.command_words.specs.Given.{options_of}
 use Rattle.aesop_session.specs.Documents.{WritesBlocks}
 use Rattle.aesop_session.proofs.document.write_blocks.Given as goal
 

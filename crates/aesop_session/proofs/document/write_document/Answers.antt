@@ -1,7 +1,7 @@
 use Rattle.std.proofs.Common.{◌∙◌, subst}
 use Rattle.std.specs.Io.KnownBytes.{Appends}
 use Rattle.run_io.specs.Moves.{AppendsPrefix}
-use Rattle.command_words.specs.Commands.{options_of}
+use Rattle.command_words.specs.Given.{options_of}
 use Rattle.aesop_session.proofs.Completion.{AppendsPrefix-nothing, WritesDocument-whole, WritesDocumentPrefix-first, WritesDocumentPrefix-blocks, WritesDocumentPrefix-last}
 use Rattle.aesop_session.proofs.document.write_document.Goals as goal
 

@@ -2,7 +2,7 @@ use Rattle.std.proofs.Common.{sym, subst, inl, inr, map}
 use Rattle.std.proofs.KnownBytes.{Keeps-refl}
 use Rattle.file_elab.specs.ProgramViews.{theorem_of, program_of}
 use Rattle.file_elab.specs.Theorems.{AreFormed}
-use Rattle.command_words.specs.Commands.{options_of}
+use Rattle.command_words.specs.Given.{options_of}
 use Rattle.aesop_session.specs.Documents.{WritesDocument, WritesDocumentPrefix}
 use Rattle.aesop_session.proofs.Answering.{Answered-document, TakesPrefix-document, TakesProgram-at_most, not_read_fault, not_write_fault}
 use Rattle.aesop_session.proofs.top.answer.Goals as goal

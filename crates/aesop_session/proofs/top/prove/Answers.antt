@@ -1,6 +1,6 @@
 use Rattle.std.proofs.Common.{◌≡◌, subst}
 use Rattle.aesop_session.specs.declared.input.NoProgram.TheVariants as none
-use Rattle.command_words.specs.Commands.{options_of}
+use Rattle.command_words.specs.Given.{options_of}
 use Rattle.aesop_session.specs.Inputs.{IsNoProgram}
 use Rattle.aesop_session.proofs.top.prove.Goals as goal
 

@@ -1,5 +1,6 @@
 use Rattle.std.proofs.Common.{rules, ◌≡◌, inl, inr, None, Some, ap, arith}
-use Rattle.command_words.specs.Commands.{LfOptions, options_of}
+use Rattle.command_words.specs.Commands.{LfOptions}
+use Rattle.command_words.specs.Given.{options_of}
 use Rattle.aesop_session.specs.Calls.{every_call}
 use Rattle.aesop_session.proofs.ServedCommands.{no_command, found_prove, found_budget, found_workers}
 use Rattle.aesop_session.proofs.ForcedStatuses.{Answered-forced}

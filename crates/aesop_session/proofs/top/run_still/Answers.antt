@@ -1,5 +1,5 @@
 use Rattle.std.proofs.Common.{◌≡◌, inl, inr, None, Some}
-use Rattle.command_words.specs.Commands.{options_of}
+use Rattle.command_words.specs.Given.{options_of}
 use Rattle.aesop_session.specs.Calls.{still_call}
 use Rattle.aesop_session.proofs.ServedCommands.{no_command, no_still_command, found_prove, found_budget}
 use Rattle.aesop_session.proofs.ForcedStatuses.{Answered-forced}
