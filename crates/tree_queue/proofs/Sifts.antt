@@ -5,7 +5,7 @@ use Rattle.std.specs.List.{SwappedAt}
 use Rattle.std.proofs.lemmas.List.{get_or_append_left, get_or-map, length-map}
 use Rattle.std.proofs.lemmas.Bool.{eqb-true, eqb-false, ltb-true, ltb-false}
 use lib.Dec.{eqb, ltb}
-use Rattle.tree_queue.specs.Heaps.{parent, IsHeap, IsHeapButUp, IsHeapButDown}
+use Rattle.tree_queue.specs.Heaps.{parent, IsHeap, IsHeapButUp, IsHeapAround}
 
 -- two places are one, or they differ
 pub same_or : {P : Type 0} (a b : ℕ) → (a ≡ b → P) → ((a ≡ b → ⊥) → P) → P
@@ -96,46 +96,36 @@ module _ {A : Type 0} (lt : A → A → Bool) (o : IsStrictWeakOrder lt) where
   pub up_top : (xs : List A) (hole : ℕ) → hole ≡ 0 → IsHeapButUp lt xs hole → IsHeap lt xs
   up_top xs h z heap j d jp jl = heap.edges j d jp jl (λ e. absurd (omega (arith, e, z, jp)))
 
-  -- the item at the hole goes down, since the better one below it comes before it
-  pub down_step : (xs ys : List A) (hole below : ℕ) → SwappedAt xs ys hole below → length ys ≡ length xs → parent below ≡ hole → 0 < below → below < length xs
-      → ((d : A) → lt (slice_index_or xs below d) (slice_index_or xs hole d) ≡ true)
+  -- the better one below the hole goes up into it
+  pub around_step : (xs ys : List A) (hole below : ℕ) → SwappedAt xs ys hole below → length ys ≡ length xs → parent below ≡ hole → 0 < below → below < length xs
       → ((s : ℕ) (d : A) → parent s ≡ hole → 0 < s → s < length xs → lt (slice_index_or xs s d) (slice_index_or xs below d) ≡ false)
-      → IsHeapButDown lt xs hole → IsHeapButDown lt ys below
-  down_step xs ys h b sw long pb bp bl before best heap = record { edges = edges; gap = gap }
+      → IsHeapAround lt xs hole → IsHeapAround lt ys below
+  around_step xs ys h b sw long pb bp bl best heap = record { edges = edges; gap = gap }
     where
       high : h < b
       high = omega (arith, pb, bp)
 
-      edges : (j : ℕ) (d : A) → 0 < j → j < length ys → (parent j ≡ b → ⊥) → lt (slice_index_or ys j d) (slice_index_or ys (parent j) d) ≡ false
-      edges j d jp jl nb = same_or j b
-          (λ jb. rw (jb, pb, sw.1 d, sw.0 d) (o.one_way _ _ (before d)))
-          (λ njb. same_or j h
+      edges : (j : ℕ) (d : A) → 0 < j → j < length ys → (j ≡ b → ⊥) → (parent j ≡ b → ⊥) → lt (slice_index_or ys j d) (slice_index_or ys (parent j) d) ≡ false
+      edges j d jp jl njb nb = same_or j h
           (λ jh.
           let up : parent h < h = omega (arith, jh, jp) in
           rw (jh, sw.0 d, sw.2 (parent h) d (differ (parent h) h up) (differ (parent h) b (omega (arith, up, high)))) (heap.gap b d (omega (arith, jh, jp)) bp bl pb))
           (λ njh. let at = sw.2 j d njh njb in
           same_or (parent j) h
           (λ ph. rw (at, ph, sw.0 d) (best j d ph jp (rw long at jl)))
-          (λ nph. rw (at, sw.2 (parent j) d nph nb) (heap.edges j d jp (rw long at jl) nph))))
+          (λ nph. rw (at, sw.2 (parent j) d nph nb) (heap.edges j d jp (rw long at jl) njh nph)))
 
       gap : (j : ℕ) (d : A) → 0 < b → 0 < j → j < length ys → parent j ≡ b → lt (slice_index_or ys j d) (slice_index_or ys (parent b) d) ≡ false
       gap j d _ jp jl pj =
           let more : b < j = omega (arith, pj, jp) in
-          rw (pb, sw.2 j d (differ_back h j (omega (arith, high, more))) (differ_back b j more), sw.0 d) (rw pj at (heap.edges j d jp (rw long at jl) (λ z. differ h b high (sym z ∙ pj))))
-
-  -- nothing below the hole comes before the item there
-  pub down_done : (xs : List A) (hole : ℕ) → ((s : ℕ) (d : A) → parent s ≡ hole → 0 < s → s < length xs → lt (slice_index_or xs s d) (slice_index_or xs hole d) ≡ false) → IsHeapButDown lt xs hole → IsHeap lt xs
-  down_done xs h after heap j d jp jl = same_or (parent j) h (λ e. rw e (after j d e jp jl)) (λ n. heap.edges j d jp jl n)
+          rw (pb, sw.2 j d (differ_back h j (omega (arith, high, more))) (differ_back b j more), sw.0 d) (rw pj at (heap.edges j d jp (rw long at jl) (differ_back h j (omega (arith, high, more))) (λ z. differ h b high (sym z ∙ pj))))
 
   -- nothing stands below the hole
-  pub down_end : (xs : List A) (hole : ℕ) → length xs / 2 ≤ hole → IsHeapButDown lt xs hole → IsHeap lt xs
-  down_end xs h over heap = down_done xs h (λ s d p a b. absurd (omega (arith, over, p, a, b))) heap
-
-  -- neither of the two below the hole comes before the item there
-  pub down_stop : (xs : List A) (hole below : ℕ) → ((d : A) → lt (slice_index_or xs below d) (slice_index_or xs hole d) ≡ false)
-      → ((s : ℕ) (d : A) → parent s ≡ hole → 0 < s → s < length xs → lt (slice_index_or xs s d) (slice_index_or xs below d) ≡ false)
-      → IsHeapButDown lt xs hole → IsHeap lt xs
-  down_stop xs h b after best heap = down_done xs h (λ s d p a l. o.chain _ _ _ (best s d p a l) (after d)) heap
+  pub around_end : (xs : List A) (hole : ℕ) → length xs / 2 ≤ hole → IsHeapAround lt xs hole → IsHeapButUp lt xs hole
+  around_end xs h over heap = record {
+    edges = λ j d jp jl n. heap.edges j d jp jl n (λ p. absurd (omega (arith, over, p, jp, jl)));
+    gap = heap.gap;
+  }
 
   -- an item goes to the end of a heap
   pub pushed : (xs : List A) (x : A) → IsHeap lt xs → IsHeapButUp lt (xs ++ x ∷ []) (length xs)
@@ -150,9 +140,9 @@ module _ {A : Type 0} (lt : A → A → Bool) (o : IsStrictWeakOrder lt) where
       gap j d a jp jl pj = absurd (omega (arith, jl, pj, jp, length-append xs (x ∷ [])))
 
   -- the first of a heap is gone, and another item is in its place
-  pub replaced : (xs ys : List A) → IsHeap lt xs → length ys ≤ length xs → ((k : ℕ) (d : A) → 0 < k → k < length ys → slice_index_or ys k d ≡ slice_index_or xs k d) → IsHeapButDown lt ys 0
+  pub replaced : (xs ys : List A) → IsHeap lt xs → length ys ≤ length xs → ((k : ℕ) (d : A) → 0 < k → k < length ys → slice_index_or ys k d ≡ slice_index_or xs k d) → IsHeapAround lt ys 0
   replaced xs ys heap short same = record {
-    edges = λ j d jp jl n. rw (same j d jp jl, same (parent j) d (positive_of _ n) (omega (arith, jp, jl))) (heap j d jp (omega (arith, jl, short)));
+    edges = λ j d jp jl _ n. rw (same j d jp jl, same (parent j) d (positive_of _ n) (omega (arith, jp, jl))) (heap j d jp (omega (arith, jl, short)));
     gap = λ j d a. absurd (omega (arith, a));
   }
 

@@ -15,7 +15,7 @@ module _ {A : Type 0} (lt : A → A → Bool) where
     pub edges : (j : ℕ) (d : A) → 0 < j → j < length xs → (j ≡ hole → ⊥) → lt (slice_index_or xs j d) (slice_index_or xs (parent j) d) ≡ false
     pub gap : (j : ℕ) (d : A) → 0 < hole → 0 < j → j < length xs → parent j ≡ hole → lt (slice_index_or xs j d) (slice_index_or xs (parent hole) d) ≡ false
 
-  -- so it is but for the items below the hole, which may come before the one at the hole
-  pub record IsHeapButDown (xs : List A) (hole : ℕ) : Type 0 where
-    pub edges : (j : ℕ) (d : A) → 0 < j → j < length xs → (parent j ≡ hole → ⊥) → lt (slice_index_or xs j d) (slice_index_or xs (parent j) d) ≡ false
+  -- so it is but for the item at the hole, which may stand too high or too low
+  pub record IsHeapAround (xs : List A) (hole : ℕ) : Type 0 where
+    pub edges : (j : ℕ) (d : A) → 0 < j → j < length xs → (j ≡ hole → ⊥) → (parent j ≡ hole → ⊥) → lt (slice_index_or xs j d) (slice_index_or xs (parent j) d) ≡ false
     pub gap : (j : ℕ) (d : A) → 0 < hole → 0 < j → j < length xs → parent j ≡ hole → lt (slice_index_or xs j d) (slice_index_or xs (parent hole) d) ≡ false

@@ -1,10 +1,9 @@
 -- The order of nodes: by priority, the greater first, then by depth, then by address.
-use Rattle.std.specs.Prelude.{◌≡◌, ℕ, zero, suc, ◌<◌, [], ◌∷◌, ◌++◌, Bool, Option, Some, None, unwrap_or, length, IsSome}
+use Rattle.std.specs.Prelude.{◌≡◌, ℕ, ◌<◌, Bool, unwrap_or, length, IsSome}
 use Rattle.std.specs.declared.cmp.Ordering.{Ordering}
 use Rattle.std.specs.Ordering.{nat_cmp, then_cmp, on, flip_args, is_lt}
-use Rattle.std.specs.Cmp.Lexicographic.{slice_cmp}
 use Rattle.slab.specs.Slab.{Slab, get}
-use Rattle.tree_runs.specs.Shapes.{TreeShape, nodes_count, above_at}
+use Rattle.tree_runs.specs.Shapes.{TreeShape, nodes_count}
 use Rattle.tree_runs.specs.Addresses.{address_of}
 use Rattle.tree_runs.specs.Best.{address_cmp}
 use Rattle.tree_queue.specs.declared.entry.Entry.{Entry}

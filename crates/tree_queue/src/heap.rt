@@ -5,7 +5,7 @@ ghost use Rattle.std.specs.Vec.{vec_len, vec_capacity};
 ghost use Rattle.std.specs.List.Sorted.{IsPermutation};
 ghost use Rattle.tree_runs.specs.Shapes.{IsShape};
 ghost use Rattle.tree_queue.specs.Orders.{is_key_ahead, entry_cmp, IsPlaced, IsKnown};
-ghost use Rattle.tree_queue.specs.Heaps.{parent, IsHeap, IsHeapButUp, IsHeapButDown};
+ghost use Rattle.tree_queue.specs.Heaps.{parent, IsHeap, IsHeapButUp, IsHeapAround};
 
 use crate::addresses::compare_addresses;
 use crate::entry::Entry;
@@ -82,12 +82,15 @@ fn better_below(keys: &[usize], entries: &Slab<Entry>, shape: &Shape, left: usiz
     }
 }
 
-/// Moves the first key down until none below it is better.
-fn sift_down(keys: &mut Vec<usize>, entries: &Slab<Entry>, shape: &Shape)
+/// Moves the first key down to a place with none below it, the better one of those below going up each time, and answers that place.
+fn sink_first(keys: &mut Vec<usize>, entries: &Slab<Entry>, shape: &Shape) -> usize
+    requires some { 0 < vec_len keys.old }
     requires shape { IsShape shape.now.shape }
     requires known { All (IsKnown shape.now.shape entries.now) keys.old.items }
-    requires heap { IsHeapButDown (is_key_ahead shape.now.shape entries.now) keys.old.items 0 }
-    ensures heap { IsHeap (is_key_ahead shape.now.shape entries.now) keys.new.items }
+    requires heap { IsHeapAround (is_key_ahead shape.now.shape entries.now) keys.old.items 0 }
+    ensures within { result < vec_len keys.new }
+    ensures heap { IsHeapButUp (is_key_ahead shape.now.shape entries.now) keys.new.items result }
+    ensures known { All (IsKnown shape.now.shape entries.now) keys.new.items }
     ensures same { IsPermutation keys.old.items keys.new.items }
     ensures capacity { vec_capacity keys.new ≡ vec_capacity keys.old }
 {
@@ -95,12 +98,27 @@ fn sift_down(keys: &mut Vec<usize>, entries: &Slab<Entry>, shape: &Shape)
     let mut hole = 0;
     while hole < half {
         let below = better_below(keys.as_slice(), entries, shape, 2 * hole + 1);
-        if !is_ahead(entries, shape, keys[below], keys[hole]) {
-            return;
-        }
         keys.swap(hole, below);
         hole = below;
     }
+    hole
+}
+
+/// Puts the first key at its place. It sinks to the bottom and rises from there: a key that comes from the end mostly belongs near it, and
+/// so half the comparisons are made of a way down that tests at each place whether to stop.
+fn settle_first(keys: &mut Vec<usize>, entries: &Slab<Entry>, shape: &Shape)
+    requires shape { IsShape shape.now.shape }
+    requires known { All (IsKnown shape.now.shape entries.now) keys.old.items }
+    requires heap { IsHeapAround (is_key_ahead shape.now.shape entries.now) keys.old.items 0 }
+    ensures heap { IsHeap (is_key_ahead shape.now.shape entries.now) keys.new.items }
+    ensures same { IsPermutation keys.old.items keys.new.items }
+    ensures capacity { vec_capacity keys.new ≡ vec_capacity keys.old }
+{
+    if keys.len() == 0 {
+        return;
+    }
+    let hole = sink_first(keys, entries, shape);
+    sift_up(keys, entries, shape, hole);
 }
 
 /// Takes the first key out, none of the others being better.
@@ -115,6 +133,6 @@ pub(crate) fn pop_key(keys: &mut Vec<usize>, entries: &Slab<Entry>, shape: &Shap
     ensures capacity { vec_capacity keys.new ≡ vec_capacity keys.old }
 {
     let key = keys.swap_remove(0);
-    sift_down(keys, entries, shape);
+    settle_first(keys, entries, shape);
     key
 }

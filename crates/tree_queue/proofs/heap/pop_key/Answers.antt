@@ -7,4 +7,4 @@ returns-clause-popped c =
     let xs = c.args.keys.now.items in
     let key = c.swap_remove-key.result in
     let removed = IsPermutation-swap_remove xs 0 key (omega (arith, c.requires.some, c.args.keys.now.ok.0)) c.swap_remove-key.ensures.value in
-    IsPermutation-trans _ _ _ (rw c.swap_remove-key.ensures.items removed) (IsPermutation-cons key _ _ c.sift_down.ensures.same)
+    IsPermutation-trans _ _ _ (rw c.swap_remove-key.ensures.items removed) (IsPermutation-cons key _ _ c.settle_first.ensures.same)

@@ -1,4 +1,4 @@
-use Rattle.std.proofs.Common.{◌≡◌, ◌+◌, ◌<◌, ◌∙◌, sym, length, slice_get, Some, false, arith}
+use Rattle.std.proofs.Common.{◌≡◌, ◌+◌, ◌∙◌, sym, length, false, arith}
 use Rattle.std.proofs.lemmas.List.Sorted.{length_permutation}
 use Rattle.tree_runs.specs.Marks.{is_relevant}
 use Rattle.tree_queue.proofs.Drops.{first_is_best, DropsIrrelevant-more, first_stands, no_first}

@@ -1,4 +1,4 @@
-use Rattle.std.proofs.Common.{◌≡◌, ◌≤◌, length}
+use Rattle.std.proofs.Common.{◌≤◌, length}
 use Rattle.tree_queue.specs.Queues.{IsQueueOf, DropsIrrelevant}
 use Rattle.tree_queue.proofs.queue.Queue.best.Given as goal
 
