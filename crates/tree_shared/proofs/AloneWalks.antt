@@ -1,9 +1,9 @@
 -- What is kept while the caller has a tree alone.
-use Rattle.std.proofs.Common.{◌≡◌, ℕ, ◌+◌, ◌<◌, Bool, true, false, ◌==◌, ◌||◌, List, [], ◌∷◌, ◌≢◌, length, Result, Ok, Err, IfOk, refl, sym, ap, subst, ◌∙◌, arith}
+use Rattle.std.proofs.Common.{◌≡◌, ℕ, ◌+◌, ◌<◌, Bool, true, false, ◌==◌, ◌||◌, List, [], ◌∷◌, ◌++◌, ◌≢◌, length, Result, Ok, Err, IfOk, refl, sym, ap, subst, ◌∙◌, arith}
 use Rattle.std.proofs.lemmas.Bool.{eqb-true, eq-eqb}
-use Rattle.std.proofs.lemmas.List.Elements.{All-head}
+use Rattle.std.proofs.lemmas.List.Elements.{All-head, All-push}
 use Rattle.tree_runs.specs.Marks.{is_decided}
-use Rattle.tree_runs.specs.States.{TreeEvent, claim, TreeState, state_of}
+use Rattle.tree_runs.specs.States.{TreeEvent, claim, commit, TreeState, state_of}
 use Rattle.tree_runs.specs.Soundness.{IsClaimedIn}
 use Rattle.tree_runs.specs.Runs.{is_busy, is_holding, is_settled}
 use Rattle.tree_runs.proofs.Claims.{held_is_claimed}
@@ -13,12 +13,34 @@ use Rattle.tree_steps.specs.declared.answers.Claim.TheVariants.{Decided, Spent}
 use Rattle.tree_steps.specs.Trees.{IsTree, IsAnswer, state_of_tree}
 use Rattle.tree_shared.specs.Seats.{seat_of, AreSeatsBelow}
 use Rattle.tree_shared.specs.Names.{IsTreeOf}
+use Rattle.tree_shared.specs.Stills.{IsPair}
+use Rattle.tree_shared.proofs.Pairs.{events_are, stays_idle}
 
 module _ {P S N : Type 0} (branches : P → S → List (ℕ × List S)) (seen : P → N → S) (own : P → N → Type 0) (problem : P) where
   -- a tree that came of another by steps of seat 0
   pub record ComesBySeat0 (old new : Tree P N S) : Type 0 where
     pub is_tree : IsTree (branches problem) (seen problem) (own problem) new
+    pub idle : (state_of_tree (branches problem) (seen problem) (own problem) new).held ≡ []
     pub kept : (root : N) (budget workers : ℕ) → 0 < workers → IsTreeOf branches seen own problem root budget workers old → IsTreeOf branches seen own problem root budget workers new
+
+  -- one step more
+  pub goes_one_more : (old new newer : Tree P N S) → ComesBySeat0 old new → IsTree (branches problem) (seen problem) (own problem) newer → newer.root ≡ new.root → newer.budget ≡ new.budget →
+      IsPair (branches problem) (seen problem) (own problem) new newer → ComesBySeat0 old newer
+  goes_one_more old new newer came is_tree root_same budget_same pair =
+      record {
+        is_tree = is_tree;
+        idle = stays_idle (branches problem) (seen problem) (own problem) new newer is_tree root_same budget_same pair came.idle;
+        kept = λ root budget workers some of. (
+            let before = came.kept root budget workers some of in
+            record {
+              is_tree = is_tree;
+              root_is = root_same ∙ before.root_is;
+              budget_is = budget_same ∙ before.budget_is;
+              seats = subst (AreSeatsBelow workers) (sym (events_are (branches problem) (seen problem) (own problem) new newer is_tree root_same budget_same pair))
+                  (All-push (λ e. seat_of e < workers) (new.journal.events ++ claim 0 pair.node ∷ []) (commit 0 pair.node pair.counts)
+                  (All-push (λ e. seat_of e < workers) new.journal.events (claim 0 pair.node) before.seats some) some);
+            });
+      }
 
   -- a tree that came of another in which so many seats gave back what they held
   pub record ComesByGiving (workers count : ℕ) (old new : Tree P N S) : Type 0 where

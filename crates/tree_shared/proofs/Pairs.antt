@@ -75,7 +75,7 @@ module _ {P S N : Type 0} (branches : S → List (ℕ × List S)) (seen : N → 
     abbrev before : TreeState S
     before = state_of_tree branches seen own old
 
-    events_are : new.journal.events ≡ (old.journal.events ++ first ∷ []) ++ second ∷ []
+    pub events_are : new.journal.events ≡ (old.journal.events ++ first ∷ []) ++ second ∷ []
     events_are = pair.events ∙ sym (append_assoc old.journal.events (first ∷ []) (second ∷ []))
 
     after_first : state_of branches (seen old.root) (old.journal.events ++ first ∷ []) ≡ after branches before first
@@ -99,6 +99,10 @@ module _ {P S N : Type 0} (branches : S → List (ℕ × List S)) (seen : N → 
     pub second_legal : is_legal branches old.budget (after branches before first) second ≡ true
     second_legal = subst (λ s. is_legal branches old.budget s second ≡ true) after_first both_legal.1
 
+    -- nothing is held after it, where nothing was before
+    pub stays_idle : before.held ≡ [] → (state_of_tree branches seen own new).held ≡ []
+    stays_idle idle = ap (λ s. s.held) state_is ∙ pair_idle branches old.budget before pair.node pair.counts idle
+
     pub goes_on : (root : N) (budget : ℕ) → IsOnStill root budget old → IsOnStill root budget new
     goes_on root budget on =
         let needs = claim_needs branches old.budget before pair.node first_legal in
@@ -109,7 +113,7 @@ module _ {P S N : Type 0} (branches : S → List (ℕ × List S)) (seen : N → 
           is_tree = is_tree;
           root_is = root_same ∙ on.root_is;
           budget_is = budget_same ∙ on.budget_is;
-          idle = ap (λ s. s.held) state_is ∙ pair_idle branches old.budget before pair.node pair.counts on.idle;
+          idle = stays_idle on.idle;
           goes = λ rest s.
               let later = subst (λ st. Still branches budget st rest) state_is s in
               let whole = on.goes (first ∷ second ∷ rest) (step before pair.node pair.counts rest going legal_first legal_second later) in

@@ -4,6 +4,14 @@ use Rattle.tree_runs.specs.States.{claim, commit}
 use Rattle.tree_runs.specs.Runs.{is_settled}
 use Rattle.tree_steps.specs.declared.tree.Tree.{Tree}
 use Rattle.tree_steps.specs.Trees.{state_of_tree}
+use Rattle.tree_shared.specs.declared.step.Step.{Step}
+use Rattle.tree_shared.specs.declared.step.Step.TheVariants.{Goes, Forks, Ends}
+
+-- whether a step did something
+abbrev pub has_gone : Step → Bool
+has_gone Goes = true
+has_gone Forks = true
+has_gone Ends = false
 
 module _ {P S N : Type 0} (branches : S → List (ℕ × List S)) (seen : N → S) (own : N → Type 0) where
   -- seat 0 claimed and committed a node

@@ -1,92 +1,40 @@
 //! The start of a search, before there is work for a second worker, and its end, when nobody else works any more.
 
-ghost use Rattle.std.specs.Prelude.{◌≡◌, ℕ, ◌<◌, IfOk, true, false};
+ghost use Rattle.std.specs.Prelude.{◌≡◌, ℕ, ◌<◌, [], IfOk, OnOk, true, false};
 ghost use Rattle.tree_runs.specs.Runs.{is_busy, is_settled};
 ghost use Rattle.tree_steps.specs.Trees.{IsTree, state_of_tree};
 ghost use Rattle.tree_shared.specs.Names.{IsTreeOf};
 
 use crate::gate::Gate;
-use crate::moves::{Taken, claim_for, commit_for, give_back};
+use crate::moves::give_back;
+use crate::step::take_step;
 use basics::NoMemory;
 use std::alloc::Global;
-use tree_steps::{Branches, Claim, Problem, Tree};
+use tree_steps::{Claim, Problem, Tree};
 
-/// How a step in the caller alone went: at most one node is open after it, or more are, or nothing was to be done.
-enum Step {
-    Goes,
-    Forks,
-    Ends,
-}
-
-// Whether there is more than one child.
-fn is_fork<N>(branches: &Branches<N>) -> bool {
-    let mut found = false;
-    for branch in branches.alternatives.as_slice() {
-        match branch.nodes.len() {
-            0 => {}
-            1 if !found => found = true,
-            _ => return true,
-        }
-    }
-    false
-}
-
-// Claims and commits one node as seat 0.
-fn take_step<P: Problem, G: Gate>(
-    alloc: Global,
-    problem: &P,
-    gate: &G,
-    tree: &mut Tree<P>,
-    turn: u32,
-) -> Result<Step, NoMemory>
-    requires tree { IsTree (P.branches problem.now) (P.seen problem.now) (P.is_own problem.now) tree.old }
-    ensures tree { (root : P.Node) (budget workers : ℕ) → 0 < workers → IsTreeOf P.branches P.seen P.is_own problem.now root budget workers tree.old →
-        IsTreeOf P.branches P.seen P.is_own problem.now root budget workers tree.new }
-    ensures is_tree { IsTree (P.branches problem.now) (P.seen problem.now) (P.is_own problem.now) tree.new }
-{
-    match claim_for(problem, tree, 0)? {
-        Claim::Take(node, content) => {
-            let taken = Taken {
-                seat: 0,
-                node,
-                content,
-            };
-            gate.between(0, turn);
-            let branches = problem.expand(&taken.content)?;
-            let forks = is_fork(&branches);
-            if !commit_for(alloc, problem, tree, &taken, branches) {
-                return Err(NoMemory);
-            }
-            if forks {
-                Ok(Step::Forks)
-            } else {
-                Ok(Step::Goes)
-            }
-        }
-        Claim::Decided => Ok(Step::Ends),
-        Claim::Spent(_) => Ok(Step::Ends),
-        Claim::Idle(_) => Ok(Step::Ends),
-    }
-}
-
-/// Searches as seat 0 as long as at most one node is open, and answers how many claims were made where more are.
+/// Searches as seat 0: to the end where there are no more workers than one, and else as long as at most one node is open. It answers how many claims were made where
+/// others are to help.
 pub(crate) fn begin<P: Problem, G: Gate>(
     alloc: Global,
     problem: &P,
     gate: &G,
     tree: &mut Tree<P>,
     budget: u32,
+    workers: u32,
 ) -> Result<Option<u32>, NoMemory>
     requires tree { IsTree (P.branches problem.now) (P.seen problem.now) (P.is_own problem.now) tree.old }
-    ensures tree { (root : P.Node) (budget workers : ℕ) → 0 < workers → IsTreeOf P.branches P.seen P.is_own problem.now root budget workers tree.old →
-        IsTreeOf P.branches P.seen P.is_own problem.now root budget workers tree.new }
+    requires idle { (state_of_tree (P.branches problem.now) (P.seen problem.now) (P.is_own problem.now) tree.old).held ≡ [] }
+    ensures tree { OnOk result ((root : P.Node) (budget workers : ℕ) → 0 < workers → IsTreeOf P.branches P.seen P.is_own problem.now root budget workers tree.old →
+        IsTreeOf P.branches P.seen P.is_own problem.now root budget workers tree.new) }
     ensures is_tree { IsTree (P.branches problem.now) (P.seen problem.now) (P.is_own problem.now) tree.new }
 {
     for turn in 0..budget {
-        match take_step(alloc, problem, gate, tree, turn)? {
-            Step::Goes => {}
-            Step::Forks => return Ok(Some(turn + 1)),
-            Step::Ends => return Ok(None),
+        let step = take_step(alloc, problem, gate, tree, turn)?;
+        if !step.goes() {
+            return Ok(None);
+        }
+        if workers > 1 && step.forks() {
+            return Ok(Some(turn + 1));
         }
     }
     Ok(None)

@@ -11,6 +11,7 @@ pub mod gate;
 mod moves;
 pub mod name;
 mod room;
+mod step;
 pub mod still;
 pub mod workers;
 

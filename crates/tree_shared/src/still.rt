@@ -1,35 +1,21 @@
 //! The search in the caller alone.
 
-ghost use Rattle.std.specs.Prelude.{◌≡◌, ◌<◌, [], IfOk};
+ghost use Rattle.std.specs.Prelude.{◌≡◌, ◌<◌, IfOk};
 ghost use Rattle.tree_runs.specs.Runs.{IsStillRun};
-ghost use Rattle.tree_steps.specs.Trees.{IsTree, state_of_tree};
-ghost use Rattle.tree_shared.specs.Stills.{IsStep};
+ghost use Rattle.tree_steps.specs.Trees.{IsTree};
 
+use crate::gate::Gate;
+use crate::step::take_step;
 use basics::NoMemory;
 use std::alloc::Global;
-use tree_steps::{Claim, Problem, Tree};
+use tree_steps::{Problem, Tree};
 
-// Claims and commits one node as seat 0, and answers whether there was one.
-fn take_step<P: Problem>(alloc: Global, problem: &P, tree: &mut Tree<P>) -> Result<bool, NoMemory>
-    requires tree { IsTree (P.branches problem.now) (P.seen problem.now) (P.is_own problem.now) tree.old }
-    requires idle { (state_of_tree (P.branches problem.now) (P.seen problem.now) (P.is_own problem.now) tree.old).held ≡ [] }
-    ensures tree { IsTree (P.branches problem.now) (P.seen problem.now) (P.is_own problem.now) tree.new }
-    ensures root { tree.new.root ≡ tree.old.root }
-    ensures budget { tree.new.budget ≡ tree.old.budget }
-    ensures step { IfOk result (IsStep (P.branches problem.now) (P.seen problem.now) (P.is_own problem.now) tree.old tree.new) }
-{
-    match tree.claim(problem, 0)? {
-        Claim::Take(node, content) => {
-            let branches = problem.expand(&content)?;
-            match tree.commit(alloc, problem, node, 0, branches) {
-                Ok(()) => Ok(true),
-                Err(_) => Err(NoMemory),
-            }
-        }
-        Claim::Decided => Ok(false),
-        Claim::Spent(_) => Ok(false),
-        Claim::Idle(_) => unreachable!(),
-    }
+/// A gate that nobody watches.
+#[derive(Clone, Copy)]
+struct OpenGate;
+
+impl Gate for OpenGate {
+    fn between(&self, _seat: u32, _turn: u32) {}
 }
 
 /// Searches as seat 0 alone: it claims the best node and commits its branches until the root is decided or as many nodes as the budget are
@@ -47,7 +33,8 @@ pub fn search_still<P: Problem>(
     ensures budget { IfOk result (λ tree. tree.budget ≡ budget) }
     ensures still { IfOk result (λ tree. IsStillRun (P.branches problem.now) budget (P.seen problem.now root) tree.journal.events) }
 {
+    let gate = OpenGate;
     let mut tree = Tree::start(alloc, problem, root, budget)?;
-    while take_step(alloc, problem, &mut tree)? {}
+    while take_step(alloc, problem, &gate, &mut tree, 0)?.goes() {}
     Ok(tree)
 }

@@ -197,7 +197,7 @@ where
     ensures settled { IfOk result (λ tree. is_settled (P.branches problem.now) budget (state_of_tree (P.branches problem.now) (P.seen problem.now) (P.is_own problem.now) tree) ≡ true) }
 {
     let mut tree = Tree::start(alloc, problem, root, budget)?;
-    let turns = begin(alloc, problem, crew.gate, &mut tree, budget)?;
+    let turns = begin(alloc, problem, crew.gate, &mut tree, budget, crew.workers)?;
     let tree = go_on(crew, alloc, problem, tree, turns);
     end(problem, tree, crew.workers)
 }

@@ -8,14 +8,14 @@ use Rattle.tree_shared.proofs.workers.search.Goals as goal
 pub go_on-tree-requires-clause-tree : goal.go_on-tree-requires-clause-tree
 go_on-tree-requires-clause-tree g c κs within =
     of_itself g.P.Problem.branches g.P.Problem.seen g.P.Problem.is_own c.args.problem.now c.args.root c.args.budget c.args.crew.now.workers c.begin.new.tree
-    (c.begin.ensures.tree c.args.root c.args.budget c.args.crew.now.workers c.requires.workers
+    (c.in_ok-turns.ensures.tree c.args.root c.args.budget c.args.crew.now.workers c.requires.workers
     (at_start g.P.Problem.branches g.P.Problem.seen g.P.Problem.is_own c.args.problem.now c.args.root c.args.budget c.args.crew.now.workers c.in_ok-tree.tree c.in_ok-tree.ensures.tree
     c.in_ok-tree.ensures.journal c.in_ok-tree.ensures.root c.in_ok-tree.ensures.budget))
 
 pub returns-clause-root : goal.returns-clause-root
 returns-clause-root g c =
     let begun =
-    c.begin.ensures.tree c.args.root c.args.budget c.args.crew.now.workers c.requires.workers
+    c.in_ok-turns.ensures.tree c.args.root c.args.budget c.args.crew.now.workers c.requires.workers
     (at_start g.P.Problem.branches g.P.Problem.seen g.P.Problem.is_own c.args.problem.now c.args.root c.args.budget c.args.crew.now.workers c.in_ok-tree.tree c.in_ok-tree.ensures.tree
     c.in_ok-tree.ensures.journal c.in_ok-tree.ensures.root c.in_ok-tree.ensures.budget) in
     if_ok (IsTreeOf g.P.Problem.branches g.P.Problem.seen g.P.Problem.is_own c.args.problem.now c.go_on-tree.result.root c.go_on-tree.result.budget c.args.crew.now.workers)
@@ -24,7 +24,7 @@ returns-clause-root g c =
 pub returns-clause-budget : goal.returns-clause-budget
 returns-clause-budget g c =
     let begun =
-    c.begin.ensures.tree c.args.root c.args.budget c.args.crew.now.workers c.requires.workers
+    c.in_ok-turns.ensures.tree c.args.root c.args.budget c.args.crew.now.workers c.requires.workers
     (at_start g.P.Problem.branches g.P.Problem.seen g.P.Problem.is_own c.args.problem.now c.args.root c.args.budget c.args.crew.now.workers c.in_ok-tree.tree c.in_ok-tree.ensures.tree
     c.in_ok-tree.ensures.journal c.in_ok-tree.ensures.root c.in_ok-tree.ensures.budget) in
     if_ok (IsTreeOf g.P.Problem.branches g.P.Problem.seen g.P.Problem.is_own c.args.problem.now c.go_on-tree.result.root c.go_on-tree.result.budget c.args.crew.now.workers)
@@ -33,7 +33,7 @@ returns-clause-budget g c =
 pub returns-clause-settled : goal.returns-clause-settled
 returns-clause-settled g c =
     let begun =
-    c.begin.ensures.tree c.args.root c.args.budget c.args.crew.now.workers c.requires.workers
+    c.in_ok-turns.ensures.tree c.args.root c.args.budget c.args.crew.now.workers c.requires.workers
     (at_start g.P.Problem.branches g.P.Problem.seen g.P.Problem.is_own c.args.problem.now c.args.root c.args.budget c.args.crew.now.workers c.in_ok-tree.tree c.in_ok-tree.ensures.tree
     c.in_ok-tree.ensures.journal c.in_ok-tree.ensures.root c.in_ok-tree.ensures.budget) in
     if_ok

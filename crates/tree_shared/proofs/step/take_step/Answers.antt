@@ -2,7 +2,7 @@ use Rattle.std.proofs.Common.{subst}
 use Rattle.tree_steps.specs.Seen.{branches_seen}
 use Rattle.tree_steps.specs.Trees.{IsAnswer}
 use Rattle.tree_shared.proofs.Pairs.{holds_now, branches_now}
-use Rattle.tree_shared.proofs.still.take_step.Goals as goal
+use Rattle.tree_shared.proofs.step.take_step.Goals as goal
 
 pub commit-requires-clause-holds : goal.commit-requires-clause-holds
 commit-requires-clause-holds g c =
