@@ -5,6 +5,7 @@ ghost use Rattle.tree_runs.specs.Runs.{is_settled};
 ghost use Rattle.tree_steps.specs.Trees.{IsTree, state_of_tree};
 ghost use Rattle.tree_shared.specs.Names.{IsTreeOf};
 ghost use Rattle.tree_shared.specs.Seats.{AreSeatsBelow};
+ghost use Rattle.tree_shared.specs.Tasks.{IsTask};
 
 use crate::alone::{begin, end};
 use crate::desk::Task;
@@ -23,7 +24,11 @@ use tree_steps::{Problem, Tree};
 /// A worker expands nodes that nest deeply. The stack is taken only as it is used.
 const STACK: usize = 1 << 30;
 
-/// Who searches: the runtime that starts the workers, the gate that they pass, and how many they are, the caller among them.
+/// How many turns the caller takes with one thread beside it before it starts the others.
+const TURNS_OF_TWO: u32 = 32;
+
+/// Who searches: the runtime that starts threads, the gate that all workers pass, and how many workers there are: the caller, which is the worker of seat 0, and a thread for
+/// each other seat.
 #[derive(Clone, Copy)]
 pub struct Crew<'a, R, G> {
     pub rt: &'a R,
@@ -31,66 +36,89 @@ pub struct Crew<'a, R, G> {
     pub workers: u32,
 }
 
-// Expands a node that was claimed, and commits it. `false` says that memory was refused, and the node was given back.
+// Expands a node that was claimed, and commits it. Where memory is refused the node is given back. The answer is what is to be done next.
 fn expand<R: Wait, P: Problem, J: TreeName<P, P::Node>>(
     rt: &R,
     alloc: Global,
     problem: &P,
     room: &Room<P, J>,
     taken: &Taken<P::Node>,
-) -> bool
+) -> Task<P::Node>
     requires problem { J.problem ≡ Some problem.now }
     requires seat { taken.now.seat < J.workers }
     requires own { P.is_own problem.now taken.now.content }
+    ensures task { IsTask (P.is_own problem.now) J.workers result }
 {
     match problem.expand(&taken.content) {
         Ok(branches) => room.give(rt, alloc, problem, taken, branches),
         Err(_) => {
             room.put_back(rt, problem, taken.seat);
-            false
+            Task::End
         }
     }
 }
 
-// What the worker of a seat does in one turn. `false` says that it is to end.
+// Does a task, and answers the next.
 fn work_once<R: Wait, P: Problem, G: Gate, J: TreeName<P, P::Node>>(
     rt: &R,
     alloc: Global,
     problem: &P,
     gate: &G,
     room: &Room<P, J>,
-    seat: u32,
-) -> bool
+    task: Task<P::Node>,
+) -> Task<P::Node>
     requires problem { J.problem ≡ Some problem.now }
-    requires seat { seat < J.workers }
+    requires task { IsTask (P.is_own problem.now) J.workers task }
+    ensures task { IsTask (P.is_own problem.now) J.workers result }
 {
-    match room.take(rt, problem, seat) {
-        Ok(Task::Expand(taken, turn)) => {
-            gate.between(seat, turn);
+    match task {
+        Task::Expand(taken, turn) => {
+            gate.between(taken.seat, turn);
             expand(rt, alloc, problem, room, &taken)
         }
-        Ok(Task::Wait) => true,
-        Ok(Task::End) => false,
-        Err(_) => false,
+        Task::Ask(seat) => room.take(rt, problem, seat),
+        Task::End => Task::End,
     }
 }
 
-// Works in one seat to the end.
+// Works for some turns from a task on, and answers the next.
+fn work_a_while<R: Wait, P: Problem, G: Gate, J: TreeName<P, P::Node>>(
+    rt: &R,
+    alloc: Global,
+    problem: &P,
+    gate: &G,
+    room: &Room<P, J>,
+    task: Task<P::Node>,
+) -> Task<P::Node>
+    requires problem { J.problem ≡ Some problem.now }
+    requires task { IsTask (P.is_own problem.now) J.workers task }
+    ensures task { IsTask (P.is_own problem.now) J.workers result }
+{
+    let mut task = task;
+    for _ in 0..TURNS_OF_TWO {
+        task = work_once(rt, alloc, problem, gate, room, task);
+    }
+    task
+}
+
+// Works from a task on to the end.
 fn work<R: Wait, P: Problem, G: Gate, J: TreeName<P, P::Node>>(
     rt: &R,
     alloc: Global,
     problem: &P,
     gate: &G,
     room: &Room<P, J>,
-    seat: u32,
+    task: Task<P::Node>,
 )
     requires problem { J.problem ≡ Some problem.now }
-    requires seat { seat < J.workers }
+    requires task { IsTask (P.is_own problem.now) J.workers task }
 {
+    let mut task = task;
     for _ in rt.forever() {
-        if !work_once(rt, alloc, problem, gate, room, seat) {
+        if let Task::End = &task {
             return;
         }
+        task = work_once(rt, alloc, problem, gate, room, task);
     }
 }
 
@@ -114,10 +142,23 @@ where
         |scope|
             requires { (J.problem ≡ Some problem.now) × (workers ≡ J.workers) × (0 < workers) }
         {
-            for seat in 1..workers {
+            if workers > 1 {
+                let job = move ||
+                    requires { (J.problem ≡ Some problem.now) × (1 < J.workers) }
+                { work(rt, alloc, problem, gate, room, Task::Ask(1)) };
+                let _second = Builder::new()
+                    .stack_size(STACK)
+                    .spawn_scoped(scope, job)
+                    .is_ok();
+            }
+            let task = work_a_while(rt, alloc, problem, gate, room, Task::Ask(0));
+            if let Task::End = &task {
+                return;
+            }
+            for seat in 2..workers {
                 let job = move ||
                     requires { (J.problem ≡ Some problem.now) × (seat < J.workers) }
-                { work(rt, alloc, problem, gate, room, seat) };
+                { work(rt, alloc, problem, gate, room, Task::Ask(seat)) };
                 if Builder::new()
                     .stack_size(STACK)
                     .spawn_scoped(scope, job)
@@ -126,7 +167,7 @@ where
                     break;
                 }
             }
-            work(rt, alloc, problem, gate, room, 0);
+            work(rt, alloc, problem, gate, room, task);
         },
     );
 }
@@ -175,9 +216,10 @@ where
 }
 
 /// Searches with some workers on one tree: each claims the best node, expands it while no lock is held, and commits its branches, until the root is decided or as many
-/// nodes as the budget are committed. The order of these steps is not fixed. The caller is the worker of seat 0, and begins alone: threads are started once a second
-/// node is open. A worker to whom memory is refused gives its node back and ends; the search is refused where it isn't settled once all have ended. It may wait. The
-/// budget and the number of workers are at least 1.
+/// nodes as the budget are committed. The order of these steps is not fixed. Of so many workers the caller is that of seat 0, and each other is a thread. One worker goes on
+/// alone to the end, with no lock. Of more, the caller begins alone; the thread of seat 1 is started once a second node is open, and the others once the caller has taken 32
+/// turns since (`TURNS_OF_TWO`), so a short search starts at most one. A worker to whom memory is refused gives its node back and ends; the search is refused where it isn't
+/// settled once all have ended. It may wait. The budget and the number of workers are at least 1.
 pub fn search<'x, R: Threads + Wait + Sync, P: Problem + Sync, G: Gate + Sync>(
     crew: &'x Crew<'x, R, G>,
     alloc: Global,

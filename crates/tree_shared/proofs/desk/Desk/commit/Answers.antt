@@ -1,5 +1,5 @@
 use Rattle.tree_shared.proofs.Naming.{keeps_name}
-use Rattle.tree_shared.proofs.desk.Desk.give.Goals as goal
+use Rattle.tree_shared.proofs.desk.Desk.commit.Goals as goal
 
 pub invariant_of-self : goal.invariant_of-self
 invariant_of-self g c =
