@@ -2,4 +2,3 @@ pub mod ClapSteps
 pub mod ClapRows
 pub mod ClapWalks
 pub mod CommandWords
-pub mod CommandFacts

@@ -1,7 +1,7 @@
 -- The words of a command line.
 use Rattle.std.specs.Prelude.{◌≡◌, ℕ, ◌+◌, ◌*◌, ◌-◌, ◌≤◌, Bool, true, false, List, [], ◌∷◌, ◌++◌, codes, length, All, fold}
 
--- The options of a search: how many workers there are beside the caller, how many nodes are expanded at most, and whether the events of proved theorems are shown.
+-- The options of a search: how many workers there are (none: the caller searches alone), how many nodes are expanded at most, and whether the events of proved theorems are shown.
 pub record LfOptions : Type 0 where
   pub workers : ℕ
   pub budget : ℕ

@@ -30,8 +30,8 @@ const MOST_BUDGET: u32 = 50_000;
 /// Digits in a number.
 const MOST_DIGITS: usize = 5;
 
-/// The options of a search: how many workers there are beside the caller, how many nodes are expanded at most, and whether the events
-/// of proved theorems are shown.
+/// The options of a search: how many workers there are, the caller among them (none: the caller searches alone), how many nodes are
+/// expanded at most, and whether the events of proved theorems are shown.
 #[derive(Clone, Copy, Debug, PartialEq, Eq)]
 pub struct Opts {
     pub workers: u32,
