@@ -3,3 +3,4 @@ pub mod TextLengths
 pub mod SameTexts
 pub mod TermTrees
 pub mod ReadTerms
+pub mod SameTypes

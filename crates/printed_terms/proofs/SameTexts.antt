@@ -26,26 +26,26 @@ use Rattle.printed_tokens.proofs.Names.{variable_spelled}
 use Rattle.printed_tokens.proofs.Spelling.{AreNamed, are_named}
 use Rattle.printed_types.specs.Depths.{IsWithinDepth, AreWithinDepth}
 use Rattle.printed_terms.specs.NameBytes.{IsNameByte}
-use Rattle.printed_terms.specs.Laws.{EndsTerm}
+use Rattle.printed_terms.specs.Laws.{BeginsNoArgument, EndsTerm}
 use Rattle.printed_terms.proofs.NameTexts.{name_bytes}
 use Rattle.printed_terms.proofs.TextLengths.{term_within}
 
 -- the bytes of a name or a variable
-abbrev IsNameText : List ℕ → Type 0
+abbrev pub IsNameText : List ℕ → Type 0
 IsNameText [] = ⊥
 IsNameText (c ∷ cs) = IsNameByte c × AllByRecursion IsNameByte cs
 
 -- with such text after it a name goes no further
-abbrev EndsName : List ℕ → Type 0
+abbrev pub EndsName : List ℕ → Type 0
 EndsName [] = Unit {0}
 EndsName (c ∷ cs) = IsNameByte c → ⊥
 
-all_of : (xs : List ℕ) → IsNameText xs → AllByRecursion IsNameByte xs
+pub all_of : (xs : List ℕ) → IsNameText xs → AllByRecursion IsNameByte xs
 all_of [] is = absurd is
 all_of (c ∷ cs) is = is
 
 -- A text is a name and what follows in one way.
-name_split : (xs ys rest left : List ℕ) → AllByRecursion IsNameByte xs → AllByRecursion IsNameByte ys → EndsName rest → EndsName left → xs ++ rest ≡ ys ++ left →
+pub name_split : (xs ys rest left : List ℕ) → AllByRecursion IsNameByte xs → AllByRecursion IsNameByte ys → EndsName rest → EndsName left → xs ++ rest ≡ ys ++ left →
     (xs ≡ ys) × (rest ≡ left)
 name_split [] [] rest left all others ends end e = (refl, e)
 name_split [] (y ∷ ys) [] left all others ends end e = absurd cc
@@ -56,17 +56,27 @@ name_split (x ∷ xs) (y ∷ ys) rest left all others ends end e =
     let inside = name_split xs ys rest left all.1 others.1 ends end (tail_is e) in
     (ap₂ (λ c cs. c ∷ cs) (head_is e) inside.0, inside.1)
 
-no_name_begins : (c : ℕ) (more xs rest : List ℕ) → (IsNameByte c → ⊥) → IsNameText xs → c ∷ more ≡ xs ++ rest → ⊥
+pub no_name_begins : (c : ℕ) (more xs rest : List ℕ) → (IsNameByte c → ⊥) → IsNameText xs → c ∷ more ≡ xs ++ rest → ⊥
 no_name_begins c more [] rest outside is e = is
 no_name_begins c more (x ∷ xs) rest outside is e = outside (subst IsNameByte (sym (head_is e)) is.0)
+
+-- A name begins an argument.
+name_begins_argument : (xs more rest : List ℕ) → IsNameText xs → BeginsNoArgument rest → rest ≡ xs ++ more → ⊥
+name_begins_argument [] more rest is none e = is
+name_begins_argument (x ∷ xs) more [] is none e = cc
+name_begins_argument (x ∷ xs) more (c ∷ rest) is none e = none.0 (subst IsNameByte (sym (head_is e)) is.0)
+
+parenthesis_begins_argument : (more rest : List ℕ) → BeginsNoArgument rest → rest ≡ 40 ∷ more → ⊥
+parenthesis_begins_argument more [] none e = cc
+parenthesis_begins_argument more (c ∷ rest) none e = none.1 (head_is e)
 
 space_no_name : IsNameByte 32 → ⊥
 space_no_name is = let no : false ≡ true = is (omega arith) in cc
 
-opening_no_name : IsNameByte 40 → ⊥
+pub opening_no_name : IsNameByte 40 → ⊥
 opening_no_name is = let no : false ≡ true = is (omega arith) in cc
 
-closing_no_name : IsNameByte 41 → ⊥
+pub closing_no_name : IsNameByte 41 → ⊥
 closing_no_name is = let no : false ≡ true = is (omega arith) in cc
 
 bracket_no_name : IsNameByte 91 → ⊥
@@ -97,7 +107,7 @@ some_text : (name : List ℕ) → 0 < length name → AllByRecursion IsNameByte 
 some_text [] some all = absurd (omega (arith, some))
 some_text (c ∷ cs) some all = all
 
-name_is_text : (name : List ℕ) → IsGrammarName name → IsNameText name
+pub name_is_text : (name : List ℕ) → IsGrammarName name → IsNameText name
 name_is_text name is = some_text name (some_bytes is.characters name is.word is.spelled) (recursion_from_All IsNameByte name (name_bytes name is))
 
 underscore_starts_no_word : (cs : List ℕ) → IsWord (95 ∷ cs) → ⊥
@@ -111,7 +121,7 @@ name_no_variable name n is e =
     let same : is.characters ≡ variable_text n = encodes_same is.characters (variable_text n) (is.spelled.encoded ∙ e ∙ sym spelled.encoded) in
     underscore_starts_no_word (decimal n) (subst IsWord same is.word)
 
-named_at : (names : List (List ℕ)) (c : ℕ) → c < length names → slice_get names c ≡ Some (name_at names c)
+pub named_at : (names : List (List ℕ)) (c : ℕ) → c < length names → slice_get names c ≡ Some (name_at names c)
 named_at [] c within = absurd (omega (arith, within))
 named_at (name ∷ names) zero within = refl
 named_at (name ∷ names) (suc c) within = named_at names c (omega (arith, within))
@@ -137,13 +147,19 @@ module _ (sig : LfSignature) (formed : FormedSignature sig) (names : AreNamed si
   same_head depth (constant c) (metavariable g) few first second e = absurd second
   same_head depth (metavariable g) k few first second e = absurd first
 
-  args_end : (depth : ℕ) (ts : Spine) (rest : List ℕ) → EndsTerm rest → EndsName (args_text sig depth ts ++ rest)
+  pub args_end : (depth : ℕ) (ts : Spine) (rest : List ℕ) → EndsTerm rest → EndsName (args_text sig depth ts ++ rest)
   args_end depth no_args [] ends = tt
   args_end depth no_args (c ∷ rest) ends = ends.0
   args_end depth (arg t ts) rest ends = space_no_name
 
   abbrev argument : ℕ → LfTerm → List ℕ
   argument depth t = if is_name t then term_text sig depth t else in_parentheses (term_text sig depth t)
+
+  argument_begins : (depth : ℕ) (t : LfTerm) (more rest : List ℕ) → IsPrintable sig depth t → BeginsNoArgument rest → rest ≡ argument depth t ++ more → ⊥
+  argument_begins depth (at h no_args) more rest printable none e =
+      name_begins_argument (head_text sig depth h) more rest (head_is_text depth h printable.0) none (e ∙ append_assoc (head_text sig depth h) [] more)
+  argument_begins depth (lam b) more rest printable none e = parenthesis_begins_argument _ rest none e
+  argument_begins depth (at h (arg t ts)) more rest printable none e = parenthesis_begins_argument _ rest none e
 
   -- What is to be shown of two terms, whatever ends them.
   abbrev AreOne : ℕ → LfTerm → LfTerm → Type 0
@@ -153,8 +169,8 @@ module _ (sig : LfSignature) (formed : FormedSignature sig) (names : AreNamed si
       (t ≡ u) × (rest ≡ left)
   enclosed_same depth t u rest left one e =
       let inside : (term_text sig depth t ++ 41 ∷ []) ++ rest ≡ (term_text sig depth u ++ 41 ∷ []) ++ left = tail_is e in
-      let closes : EndsTerm (41 ∷ rest) = (closing_no_name, λ same. omega (arith, same)) in
-      let close : EndsTerm (41 ∷ left) = (closing_no_name, λ same. omega (arith, same)) in
+      let closes : EndsTerm (41 ∷ rest) = (closing_no_name, λ same. absurd (omega (arith, same))) in
+      let close : EndsTerm (41 ∷ left) = (closing_no_name, λ same. absurd (omega (arith, same))) in
       let both = one (41 ∷ rest) (41 ∷ left) closes close
       (sym (append_assoc (term_text sig depth t) (41 ∷ []) rest) ∙ inside ∙ append_assoc (term_text sig depth u) (41 ∷ []) left) in
       (both.0, tail_is both.1)
@@ -206,13 +222,15 @@ module _ (sig : LfSignature) (formed : FormedSignature sig) (names : AreNamed si
         let args = args_same depth ts us rest left first.1 second.1 within.1 ends end parts.1 in
         (ap₂ at (same_head depth h k within.0 first.0 second.0 parts.0) args.0, args.1)
 
-    args_same : (depth : ℕ) (ts us : Spine) (rest left : List ℕ) → ArePrintable sig depth ts → ArePrintable sig depth us → AreWithinDepth (2 ^ 64) depth ts → EndsTerm rest → EndsTerm left →
+    pub args_same : (depth : ℕ) (ts us : Spine) (rest left : List ℕ) → ArePrintable sig depth ts → ArePrintable sig depth us → AreWithinDepth (2 ^ 64) depth ts → EndsTerm rest → EndsTerm left →
         args_text sig depth ts ++ rest ≡ args_text sig depth us ++ left → (ts ≡ us) × (rest ≡ left)
     args_same depth no_args no_args rest left first second within ends end e = (refl, e)
     args_same depth no_args (arg u us) [] left first second within ends end e = absurd cc
-    args_same depth no_args (arg u us) (c ∷ rest) left first second within ends end e = absurd (ends.1 (head_is e))
+    args_same depth no_args (arg u us) (c ∷ rest) left first second within ends end e =
+        absurd (argument_begins depth u (args_text sig depth us ++ left) rest second.0 (ends.1 (head_is e)) (tail_is e ∙ append_assoc (argument depth u) (args_text sig depth us) left))
     args_same depth (arg t ts) no_args rest [] first second within ends end e = absurd cc
-    args_same depth (arg t ts) no_args rest (c ∷ left) first second within ends end e = absurd (end.1 (sym (head_is e)))
+    args_same depth (arg t ts) no_args rest (c ∷ left) first second within ends end e =
+        absurd (argument_begins depth t (args_text sig depth ts ++ rest) left first.0 (end.1 (sym (head_is e))) (sym (tail_is e) ∙ append_assoc (argument depth t) (args_text sig depth ts) rest))
     args_same depth (arg t ts) (arg u us) rest left first second within ends end e =
         let after : (argument depth t ++ args_text sig depth ts) ++ rest ≡ (argument depth u ++ args_text sig depth us) ++ left = tail_is e in
         let text = sym (append_assoc (argument depth t) (args_text sig depth ts) rest) ∙ after ∙ append_assoc (argument depth u) (args_text sig depth us) left in

@@ -11,8 +11,8 @@ use Rattle.file_syntax.specs.Productions.{IsTerm}
 use Rattle.elab_terms.specs.Names.{Text}
 use Rattle.elab_terms.specs.Terms.{ReadsTerm}
 use Rattle.file_elab.specs.GrammarNames.{IsGrammarName}
-use Rattle.file_print.specs.Texts.{term_text}
-use Rattle.file_print.specs.Printable.{IsPrintable}
+use Rattle.file_print.specs.Texts.{term_text, type_text}
+use Rattle.file_print.specs.Printable.{IsPrintable, IsPrintableType}
 use Rattle.printed_tokens.specs.Pieces.{tokens_from, term_pieces}
 use Rattle.printed_trees.specs.PrintedTrees.{IsPrintedTerm}
 use Rattle.printed_terms.specs.NameBytes.{IsNameByte, IsNoSign}
@@ -31,16 +31,27 @@ PrintedTermsAreOne = (sig : LfSignature) (depth : ℕ) (t u : LfTerm) → Formed
     IsPrintable sig depth t → IsPrintable sig depth u → depth + length (term_text sig depth t) < 2 ^ 64 →
     term_text sig depth t ≡ term_text sig depth u → t ≡ u
 
--- With such text after it a term goes no further: there is none, or it begins neither with a byte of a name nor with a space.
+-- An argument begins with a byte of a name or with a parenthesis, and such text does not.
+abbrev pub BeginsNoArgument : List ℕ → Type 0
+BeginsNoArgument [] = Unit {0}
+BeginsNoArgument (byte ∷ bytes) = (IsNameByte byte → ⊥) × (byte ≢ 40)
+
+-- With such text after it a term goes no further: no name goes on, and after a space no argument begins.
 abbrev pub EndsTerm : List ℕ → Type 0
 EndsTerm [] = Unit {0}
-EndsTerm (byte ∷ bytes) = (IsNameByte byte → ⊥) × (byte ≢ 32)
+EndsTerm (byte ∷ bytes) = (IsNameByte byte → ⊥) × (byte ≡ 32 → BeginsNoArgument bytes)
 
 -- A text that begins with a term which ends there begins with no other one.
 abbrev pub PrintedTermsEndThemselves : Type 0
 PrintedTermsEndThemselves = (sig : LfSignature) (depth : ℕ) (t u : LfTerm) (rest left : List ℕ) → FormedSignature sig → All IsGrammarName (names_of sig) →
     IsPrintable sig depth t → IsPrintable sig depth u → depth + length (term_text sig depth t) < 2 ^ 64 → EndsTerm rest → EndsTerm left →
     term_text sig depth t ++ rest ≡ term_text sig depth u ++ left → (t ≡ u) × (rest ≡ left)
+
+-- Two types with one text are the same, too.
+abbrev pub PrintedTypesAreOne : Type 0
+PrintedTypesAreOne = (sig : LfSignature) (depth : ℕ) (a b : LfType) → FormedSignature sig → All IsGrammarName (names_of sig) →
+    IsPrintableType sig depth a → IsPrintableType sig depth b → depth + length (type_text sig depth a) < 2 ^ 64 →
+    type_text sig depth a ≡ type_text sig depth b → a ≡ b
 
 -- a printed term with its tokens
 abbrev pub printed_term : LfSignature → (depth : ℕ) → LfTerm → Text

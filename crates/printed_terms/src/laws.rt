@@ -1,6 +1,6 @@
 //! Laws, each the contract of a function that does nothing.
 
-ghost use Rattle.printed_terms.specs.Laws.{NamesHaveNameBytes, NamesHaveNoSigns, PrintedTermsAreOne, PrintedTermsEndThemselves, PrintedTermsHaveTheirTrees, PrintedTermsReadBack};
+ghost use Rattle.printed_terms.specs.Laws.{NamesHaveNameBytes, NamesHaveNoSigns, PrintedTermsAreOne, PrintedTermsEndThemselves, PrintedTermsHaveTheirTrees, PrintedTermsReadBack, PrintedTypesAreOne};
 
 /// A law: a byte of a name is a letter, a digit or an underscore, or of a character above ASCII. So it is no
 /// space, no line end and no sign.
@@ -9,11 +9,15 @@ pub fn names_have_no_signs()
     ensures signs { NamesHaveNoSigns }
 {}
 
-/// A law: two terms with one text are the same, also where other text follows that begins neither with a byte
-/// of a name nor with a space.
+/// A law: two terms with one text are the same, also where other text follows with which neither goes on.
 pub fn printed_terms_are_one()
     ensures same { PrintedTermsAreOne }
     ensures parts { PrintedTermsEndThemselves }
+{}
+
+/// A law: two types with one text are the same.
+pub fn printed_types_are_one()
+    ensures { PrintedTypesAreOne }
 {}
 
 /// A law: a printed term is cut into its tokens, and the grammar reads these as a tree of it.
