@@ -4,3 +4,4 @@ pub mod SameTexts
 pub mod TermTrees
 pub mod ReadTerms
 pub mod SameTypes
+pub mod TermLines

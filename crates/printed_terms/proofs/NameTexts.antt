@@ -1,8 +1,9 @@
 -- The bytes of names.
 use Rattle.std.proofs.Common.{◌≡◌, ◌≢◌, ℕ, ◌<◌, Bool, true, false, List, [], ◌∷◌, length, get_or, All, refl, sym, ap, ◌∙◌, subst, arith}
-use Rattle.std.specs.Prelude.{not, ◌||◌, ◌&&◌, ◌==◌}
+use Rattle.std.specs.Prelude.{nat_eq, not, ◌||◌, ◌&&◌, ◌==◌}
 use Rattle.std.specs.Char.{is_ascii, is_ascii_alphanumeric}
 use Rattle.std.specs.List.{AllByRecursion, list_all}
+use Rattle.std.proofs.lemmas.Bool.{eq-eqb}
 use Rattle.std.proofs.lemmas.Bool.Decides.{nat_tests}
 use Rattle.std.proofs.lemmas.List.{get_or_default}
 use Rattle.std.proofs.lemmas.Str.{NoCharPasses-byte}
@@ -53,15 +54,22 @@ no_name_byte c e is =
     let other : true ≡ false = sym both.1 ∙ ap not (is (low c both.0)) in
     cc
 
-signs_break : (ss : List ℕ) → list_all is_sign ss ≡ true → AllByRecursion (λ sign. IsNameByte sign → ⊥) ss
+pub signs_break : (ss : List ℕ) → list_all is_sign ss ≡ true → AllByRecursion (λ sign. IsNameByte sign → ⊥) ss
 signs_break [] e = tt
 signs_break (s ∷ ss) e =
     let both = both_true (is_sign s) (list_all is_sign ss) e in
     (no_name_byte s both.0, signs_break ss both.1)
 
-differs : (byte : ℕ) (ss : List ℕ) → IsNameByte byte → AllByRecursion (λ sign. IsNameByte sign → ⊥) ss → AllByRecursion (λ sign. byte ≢ sign) ss
+pub differs : (byte : ℕ) (ss : List ℕ) → IsNameByte byte → AllByRecursion (λ sign. IsNameByte sign → ⊥) ss → AllByRecursion (λ sign. byte ≢ sign) ss
 differs byte [] is all = tt
 differs byte (s ∷ ss) is all = (λ same. all.0 (subst IsNameByte same is), differs byte ss is all.1)
+
+-- a character that is not among signs
+pub not_among : (c : ℕ) (ss : List ℕ) → list_all (λ s. not (nat_eq c s)) ss ≡ true → AllByRecursion (λ sign. c ≢ sign) ss
+not_among c [] e = tt
+not_among c (s ∷ ss) e =
+    let both = both_true (not (nat_eq c s)) (list_all (λ s. not (nat_eq c s)) ss) e in
+    (λ same. (let no : true ≡ false = sym both.0 ∙ ap not (eq-eqb c s same) in cc), not_among c ss both.1)
 
 pub no_signs : (name : List ℕ) → IsGrammarName name → All IsNoSign name
 no_signs name is k d within = differs (get_or name k d) signs (name_bytes name is k d within) (signs_break signs refl)

@@ -70,7 +70,7 @@ parenthesis_begins_argument : (more rest : List ℕ) → BeginsNoArgument rest �
 parenthesis_begins_argument more [] none e = cc
 parenthesis_begins_argument more (c ∷ rest) none e = none.1 (head_is e)
 
-space_no_name : IsNameByte 32 → ⊥
+pub space_no_name : IsNameByte 32 → ⊥
 space_no_name is = let no : false ≡ true = is (omega arith) in cc
 
 pub opening_no_name : IsNameByte 40 → ⊥
@@ -92,7 +92,7 @@ digits_are_name : (ds : List ℕ) → AllByRecursion IsDigit ds → AllByRecursi
 digits_are_name [] all = tt
 digits_are_name (d ∷ ds) all = (digit_is_name d all.0, digits_are_name ds all.1)
 
-variable_is_text : (n : ℕ) → IsNameText (variable_text n)
+pub variable_is_text : (n : ℕ) → IsNameText (variable_text n)
 variable_is_text n = (λ low. refl, digits_are_name (decimal n) (decimal_digits n))
 
 some_bytes : (cs name : List ℕ) → IsWord cs → Spells cs name → 0 < length name
@@ -126,12 +126,13 @@ named_at [] c within = absurd (omega (arith, within))
 named_at (name ∷ names) zero within = refl
 named_at (name ∷ names) (suc c) within = named_at names c (omega (arith, within))
 
-module _ (sig : LfSignature) (formed : FormedSignature sig) (names : AreNamed sig) where
-  head_is_text : (depth : ℕ) (h : LfHead) → IsPrintableHead sig depth h → IsNameText (head_text sig depth h)
+module _ (sig : LfSignature) (names : AreNamed sig) where
+  pub head_is_text : (depth : ℕ) (h : LfHead) → IsPrintableHead sig depth h → IsNameText (head_text sig depth h)
   head_is_text depth (bound n) printable = variable_is_text (depth - suc n)
   head_is_text depth (constant c) printable = name_is_text (name_at (constant_names sig) c) (names.constants c printable)
   head_is_text depth (metavariable g) printable = absurd printable
 
+module _ (sig : LfSignature) (formed : FormedSignature sig) (names : AreNamed sig) where
   same_head : (depth : ℕ) (h k : LfHead) → depth < 2 ^ 64 → IsPrintableHead sig depth h → IsPrintableHead sig depth k → head_text sig depth h ≡ head_text sig depth k → h ≡ k
   same_head depth (bound m) (bound n) few first second e =
       let same : depth - suc m ≡ depth - suc n = decimal_injective (depth - suc m) (depth - suc n) (omega (arith, few)) (omega (arith, few)) (tail_is e) in
@@ -157,7 +158,7 @@ module _ (sig : LfSignature) (formed : FormedSignature sig) (names : AreNamed si
 
   argument_begins : (depth : ℕ) (t : LfTerm) (more rest : List ℕ) → IsPrintable sig depth t → BeginsNoArgument rest → rest ≡ argument depth t ++ more → ⊥
   argument_begins depth (at h no_args) more rest printable none e =
-      name_begins_argument (head_text sig depth h) more rest (head_is_text depth h printable.0) none (e ∙ append_assoc (head_text sig depth h) [] more)
+      name_begins_argument (head_text sig depth h) more rest (head_is_text sig names depth h printable.0) none (e ∙ append_assoc (head_text sig depth h) [] more)
   argument_begins depth (lam b) more rest printable none e = parenthesis_begins_argument _ rest none e
   argument_begins depth (at h (arg t ts)) more rest printable none e = parenthesis_begins_argument _ rest none e
 
@@ -181,13 +182,13 @@ module _ (sig : LfSignature) (formed : FormedSignature sig) (names : AreNamed si
   no_enclosed depth h t rest left printable e =
       let more : List ℕ = (term_text sig depth t ++ 41 ∷ []) ++ rest in
       let same : 40 ∷ more ≡ (head_text sig depth h ++ []) ++ left = e in
-      no_name_begins 40 more (head_text sig depth h) left opening_no_name (head_is_text depth h printable) (same ∙ append_assoc (head_text sig depth h) [] left)
+      no_name_begins 40 more (head_text sig depth h) left opening_no_name (head_is_text sig names depth h printable) (same ∙ append_assoc (head_text sig depth h) [] left)
 
   names_same : (depth : ℕ) (h k : LfHead) (rest left : List ℕ) → depth < 2 ^ 64 → IsPrintableHead sig depth h → IsPrintableHead sig depth k → EndsName rest → EndsName left →
       (head_text sig depth h ++ []) ++ rest ≡ (head_text sig depth k ++ []) ++ left → (at h no_args ≡ at k no_args) × (rest ≡ left)
   names_same depth h k rest left few first second ends end e =
       let text = sym (append_assoc (head_text sig depth h) [] rest) ∙ e ∙ append_assoc (head_text sig depth k) [] left in
-      let parts = name_split (head_text sig depth h) (head_text sig depth k) rest left (all_of _ (head_is_text depth h first)) (all_of _ (head_is_text depth k second)) ends end text in
+      let parts = name_split (head_text sig depth h) (head_text sig depth k) rest left (all_of _ (head_is_text sig names depth h first)) (all_of _ (head_is_text sig names depth k second)) ends end text in
       (ap (λ head. at head no_args) (same_head depth h k few first second parts.0), parts.1)
 
   argument_same : (depth : ℕ) (t u : LfTerm) (rest left : List ℕ) → IsPrintable sig depth t → IsPrintable sig depth u → IsWithinDepth (2 ^ 64) depth t → EndsName rest → EndsName left →
@@ -210,15 +211,15 @@ module _ (sig : LfSignature) (formed : FormedSignature sig) (names : AreNamed si
         let inside = term_same (suc depth) b c first second within rest left ends end (append_cancel_left prefix _ _ bodies) in
         (ap lam inside.0, inside.1)
     term_same depth (lam b) (at k us) first second within rest left ends end e =
-        absurd (no_name_begins 91 _ (head_text sig depth k) (args_text sig depth us ++ left) bracket_no_name (head_is_text depth k second.0)
+        absurd (no_name_begins 91 _ (head_text sig depth k) (args_text sig depth us ++ left) bracket_no_name (head_is_text sig names depth k second.0)
         (e ∙ append_assoc (head_text sig depth k) (args_text sig depth us) left))
     term_same depth (at h ts) (lam c) first second within rest left ends end e =
-        absurd (no_name_begins 91 _ (head_text sig depth h) (args_text sig depth ts ++ rest) bracket_no_name (head_is_text depth h first.0)
+        absurd (no_name_begins 91 _ (head_text sig depth h) (args_text sig depth ts ++ rest) bracket_no_name (head_is_text sig names depth h first.0)
         (sym e ∙ append_assoc (head_text sig depth h) (args_text sig depth ts) rest))
     term_same depth (at h ts) (at k us) first second within rest left ends end e =
         let text = sym (append_assoc (head_text sig depth h) (args_text sig depth ts) rest) ∙ e ∙ append_assoc (head_text sig depth k) (args_text sig depth us) left in
         let parts = name_split (head_text sig depth h) (head_text sig depth k) (args_text sig depth ts ++ rest) (args_text sig depth us ++ left)
-        (all_of _ (head_is_text depth h first.0)) (all_of _ (head_is_text depth k second.0)) (args_end depth ts rest ends) (args_end depth us left end) text in
+        (all_of _ (head_is_text sig names depth h first.0)) (all_of _ (head_is_text sig names depth k second.0)) (args_end depth ts rest ends) (args_end depth us left end) text in
         let args = args_same depth ts us rest left first.1 second.1 within.1 ends end parts.1 in
         (ap₂ at (same_head depth h k within.0 first.0 second.0 parts.0) args.0, args.1)
 

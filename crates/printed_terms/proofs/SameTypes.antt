@@ -1,6 +1,6 @@
 -- Types with one text are the same.
-use Rattle.std.proofs.Common.{◌≡◌, ◌≢◌, ℕ, zero, suc, ◌+◌, ◌<◌, ◌^◌, List, [], ◌∷◌, ◌++◌, Bool, true, false, length, refl, sym, ap, ap₂, ◌∙◌, subst, append_assoc, arith}
-use Rattle.std.specs.Prelude.{codes, if◌then◌else◌, All}
+use Rattle.std.proofs.Common.{◌≡◌, ◌≢◌, ℕ, suc, ◌+◌, ◌<◌, ◌^◌, List, [], ◌∷◌, ◌++◌, Bool, true, false, length, sym, ap, ap₂, ◌∙◌, subst, append_assoc, arith}
+use Rattle.std.specs.Prelude.{codes, All}
 use Rattle.std.proofs.lemmas.List.{append-nil, append_cancel_left}
 use Rattle.basics.specs.Places.{place_of}
 use Rattle.lex_text.proofs.Prefixes.{head_is, tail_is}
@@ -18,7 +18,7 @@ use Rattle.printed_types.specs.Depths.{IsTypeWithinDepth}
 use Rattle.printed_terms.specs.NameBytes.{IsNameByte}
 use Rattle.printed_terms.specs.Laws.{BeginsNoArgument, EndsTerm}
 use Rattle.printed_terms.proofs.TextLengths.{type_within}
-use Rattle.printed_terms.proofs.SameTexts.{IsNameText, all_of, name_split, no_name_begins, opening_no_name, closing_no_name, name_is_text, named_at, args_end, args_same}
+use Rattle.printed_terms.proofs.SameTexts.{IsNameText, all_of, name_split, no_name_begins, space_no_name, opening_no_name, closing_no_name, name_is_text, named_at, args_end, args_same}
 
 -- An arrow does not begin with such text either.
 abbrev BeginsNoPart : List ℕ → Type 0
@@ -48,9 +48,6 @@ no_arrow (c ∷ cs) more ends e = no_arrow_inside cs more (ends.1 (head_is e)) (
 
 minus_no_name : IsNameByte 45 → ⊥
 minus_no_name is = let no : false ≡ true = is (omega arith) in cc
-
-space_no_name : IsNameByte 32 → ⊥
-space_no_name is = let no : false ≡ true = is (omega arith) in cc
 
 brace_no_name : IsNameByte 123 → ⊥
 brace_no_name is = let no : false ≡ true = is (omega arith) in cc

@@ -15,7 +15,7 @@ use Rattle.file_print.specs.Texts.{term_text, type_text}
 use Rattle.file_print.specs.Printable.{IsPrintable, IsPrintableType}
 use Rattle.printed_tokens.specs.Pieces.{tokens_from, term_pieces}
 use Rattle.printed_trees.specs.PrintedTrees.{IsPrintedTerm}
-use Rattle.printed_terms.specs.NameBytes.{IsNameByte, IsNoSign}
+use Rattle.printed_terms.specs.NameBytes.{IsNameByte, IsNoSign, IsNoLineSign}
 
 -- A byte of a name of the grammar is a letter, a digit or an underscore, or of a character above ASCII.
 abbrev pub NamesHaveNameBytes : Type 0
@@ -24,6 +24,11 @@ NamesHaveNameBytes = (name : List ℕ) → IsGrammarName name → All IsNameByte
 -- It is no space, no line end, and none of the signs.
 abbrev pub NamesHaveNoSigns : Type 0
 NamesHaveNoSigns = (name : List ℕ) → IsGrammarName name → All IsNoSign name
+
+-- A printed term has no line end, and no sign but parentheses and brackets.
+abbrev pub PrintedTermsAreLines : Type 0
+PrintedTermsAreLines = (sig : LfSignature) (depth : ℕ) (t : LfTerm) → All IsGrammarName (names_of sig) → IsPrintable sig depth t →
+    All IsNoLineSign (term_text sig depth t)
 
 -- Two terms with one text are the same, where a text and the number of binders around it fit in 64 bits.
 abbrev pub PrintedTermsAreOne : Type 0
