@@ -5,3 +5,5 @@ pub mod RefusedEquations
 pub mod SameArguments
 pub mod PassedTuples
 pub mod WholeRules
+mod Clashing
+mod ClashedTuples

@@ -1,5 +1,5 @@
 -- Nothing comes of a tuple whose first premises are refused.
-use Rattle.std.proofs.Common.{◌≡◌, ℕ, zero, suc, ◌+◌, ◌<◌, ◌≤◌, true, None, List, [], ◌∷◌, ◌++◌, All, length, map, refl, sym, ap, ap₂, ◌∙◌, subst, subst₂, length-append, get_or, replicate, arith}
+use Rattle.std.proofs.Common.{◌≡◌, ℕ, zero, suc, ◌+◌, ◌<◌, ◌≤◌, true, Option, None, Some, List, [], ◌∷◌, ◌++◌, All, length, map, refl, sym, ap, ap₂, ◌∙◌, subst, subst₂, length-append, get_or, replicate, arith}
 use Rattle.std.specs.Prelude.{nat_eq, ◌||◌, not}
 use Rattle.std.specs.Cmp.{nat_eq_equiv}
 use Rattle.std.specs.List.{list_any}
@@ -8,7 +8,9 @@ use Rattle.std.proofs.lemmas.List.Elements.{All-nil, All-cons, All-head, All-tai
 use Rattle.lf_definitions.specs.ShapedGoals.{scope_in, kind_shapes_in}
 use Rattle.lf_definitions.specs.Typing.{LfGoal}
 use Rattle.lf_definitions.specs.GoalLists.{all_goals}
-use Rattle.lf_definitions.specs.Syntax.{LfAtom}
+use Rattle.lf_definitions.specs.Syntax.{LfAtom, SimpleType}
+use Rattle.lf_terms.specs.declared.ty.Atom.{Atom}
+use Rattle.lf_definitions.specs.Shaping.{Scope}
 use Rattle.lf_definitions.specs.Instantiation.{LfAssigned}
 use Rattle.lf_terms.specs.Targets.{goal_of}
 use Rattle.lf_terms.specs.Types.{type_of}
@@ -19,33 +21,41 @@ use Rattle.unification.specs.Solutions.{ShapedEquation, ShapedEquations}
 use Rattle.unifiers.proofs.Steps.{All-append_left}
 use Rattle.lf_functions.specs.Endings.{unifier_of}
 use Rattle.lf_functions.proofs.EndingLaws.{unifiers_are_the_one_end, unifiers_look_at_what_occurs}
+use Rattle.meta_goals.specs.Bindings.{LfBinding}
 use Rattle.meta_goals.specs.GoalsOf.{goals_of}
-use Rattle.meta_openings.specs.Results.{opened_type_of}
 use Rattle.meta_unify.specs.Walks.{IsShapedProblem}
 use Rattle.meta_unify.specs.Endings.{ending_of}
 use Rattle.meta_unify.specs.declared.unified.Unified.{Unified}
 use Rattle.meta_unify.specs.declared.unified.Unified.TheVariants.{Solved, Clash, Occurs, Escapes, Prune, NotPattern}
 use Rattle.applications.specs.Methods.{LfCandidate}
-use Rattle.applications.specs.Candidates.{LfHypothesis, places_of, premises_from, premise_equations, tuples}
+use Rattle.applications.specs.Candidates.{LfHypothesis, places_of, premises_from, tuples}
 use Rattle.applications.specs.Applications.{freezing, application_of, completed, with_some}
 use Rattle.application_laws.proofs.Lists.{All-each}
 use Rattle.build_shared.specs.declared.app.App.{App}
 use Rattle.build_shared.specs.declared.hypotheses.Hypothesis.{Hypothesis}
 use Rattle.build_shared.specs.declared.rule_use.RuleUse.{RuleUse}
 use Rattle.build_shared.specs.RuleUses.{what_counts, AddsWhatCounts}
-use Rattle.build_shared.specs.Seen.{seen_hypothesis, seen_application}
+use Rattle.build_shared.specs.Seen.{seen_atom, seen_hypothesis, seen_application}
 use Rattle.build_forward.specs.declared.onward.Onward.{Onward}
 use Rattle.build_forward.specs.declared.refusal.Sieve.{Sieve}
-use Rattle.build_forward.specs.Onwards.{IsOnward, IsAtomIn, opening_for, tuple_offer, tuple_offers}
-use Rattle.build_forward.specs.Sieves.{IsSieve, NothingComes, is_solved}
+use Rattle.build_forward.specs.Onwards.{IsOnward, IsAtomIn, opening_for, equations_between, tuple_offer, tuple_offers}
+use Rattle.build_forward.specs.Sieves.{IsSieve, NothingComes, Awaits, is_solved}
 use Rattle.build_forward.proofs.PremisePlaces.{read_holds}
 use Rattle.build_forward.proofs.OpenedTuples.{is_usable}
-use Rattle.build_forward.proofs.SameArguments.{openings_agree, same_equations, equations-append}
+use Rattle.build_forward.proofs.SameArguments.{openings_agree, same_equations, are_between, between-append}
 use Rattle.build_forward.proofs.RefusedEquations.{never_solved, numbered-append}
 
 is_one_of_all : (ns : List ℕ) (n : ℕ) → has_number ns n ≡ list_any (nat_eq n) ns
 is_one_of_all [] n = refl
 is_one_of_all (m ∷ ns) n = ap₂ (λ a b. a || b) (nat_eq_equiv.symm m n) (is_one_of_all ns n)
+
+pub unsolved : (unified : Unified) → ((bindings : List LfBinding) → unified ≡ Solved bindings → ⊥) → not (is_solved unified) ≡ true
+unsolved (Solved bindings) never = absurd (never bindings refl)
+unsolved (Clash path) never = refl
+unsolved (Occurs m) never = refl
+unsolved (Escapes path) never = refl
+unsolved (Prune path) never = refl
+unsolved (NotPattern path) never = refl
 
 refused_by : (unified : Unified) → not (is_solved unified) ≡ true → (reason : Reason) × (ending_of unified ≡ refused reason)
 refused_by (Solved assign) unsolved = absurd cc
@@ -55,7 +65,7 @@ refused_by (Escapes path) unsolved = (escapes path, refl)
 refused_by (Prune path) unsolved = (prune path, refl)
 refused_by (NotPattern path) unsolved = (not_pattern path, refl)
 
-module _ (s : Sieve) (is : IsSieve s) (chosen : List LfHypothesis) (chosen_are : All (IsAtomIn s.onward.now.usage.now) chosen) where
+module _ (s : Sieve) (is : IsSieve s) where
   abbrev o : Onward
   o = s.onward.now
 
@@ -68,66 +78,81 @@ module _ (s : Sieve) (is : IsSieve s) (chosen : List LfHypothesis) (chosen_are :
   abbrev g : LfGoal
   g = goal_of s.onward.now.usage.now.goal.now
 
-  -- the equations that are tried
-  abbrev tried : List (LfAtom × LfAtom)
-  tried = premise_equations (type_of s.onward.now.ty.now) (opened_type_of s.opened.now) (premises_from 0 (type_of s.onward.now.ty.now)) chosen
+  -- the equations of a tuple, or of the first premises
+  abbrev pub tried : List LfHypothesis → List (LfAtom × LfAtom)
+  tried hs = equations_between (map seen_atom s.premises.now) hs
 
-  -- They are the first of those of each tuple that begins so.
-  first_equations : (rest : List LfHypothesis) → length (premises_from 0 (type_of s.onward.now.ty.now)) ≤ length (chosen ++ rest) →
-      (others : List (LfAtom × LfAtom)) × ((tuple_offer o (chosen ++ rest)).equations ≡ tried ++ others)
-  first_equations rest enough =
-      let type = type_of s.onward.now.ty.now in
-      let ks = premises_from 0 type in
-      let parts = equations-append type (opened_type_of s.opened.now) ks chosen rest in
-      let agree = openings_agree g.context (places_of g.context) u.first type (chosen ++ rest) is.tuple enough is.enough in (
-        parts.0,
-        same_equations type (opening_for o (chosen ++ rest)) (opening_for o is.tuple) ks (chosen ++ rest) agree is.onward.take_atoms
-            ∙ ap (λ x. premise_equations type x ks (chosen ++ rest)) (sym is.opened_is) ∙ parts.1,
-      )
+  abbrev pub kinds_known : ℕ → Option SimpleType
+  kinds_known = kind_shapes_in u.sig.now
 
-  pub is_shaped_problem : IsShapedProblem tried
-  is_shaped_problem =
-      let all = All-append (IsAtomIn u) chosen is.tuple chosen_are is.atoms in
-      let enough : length (premises_from 0 (type_of s.onward.now.ty.now)) ≤ length (chosen ++ is.tuple) = omega (arith, is.enough, length-append chosen is.tuple) in
-      let c = tuple_offer o (chosen ++ is.tuple) in
-      let kinds = kind_shapes_in u.sig.now in
-      let Γ = scope_in u.sig.now (goals ++ c.opened.fresh) g.context in
-      let first = first_equations is.tuple enough in
-      let numbers = numbered-append 0 tried first.0 in
-      let shaped : ShapedEquations kinds Γ (numbered_from 0 c.equations) = (is_usable o is.onward (chosen ++ is.tuple) all).equations_are_shaped in
-      let shaped_first : ShapedEquations kinds Γ (numbered_from 0 tried ++ numbers.0) = subst (ShapedEquations kinds Γ) (ap (numbered_from 0) first.1 ∙ numbers.1) shaped in
-      (kinds, Γ, All-append_left (ShapedEquation kinds Γ) (numbered_from 0 tried) numbers.0 shaped_first)
+  module _ (hs : List LfHypothesis) (all : All (IsAtomIn s.onward.now.usage.now) hs) (enough : length (premises_from 0 (type_of s.onward.now.ty.now)) ≤ length hs) where
+    abbrev c : LfCandidate
+    c = tuple_offer s.onward.now hs
 
-  solved_never : (reason : Reason) → Unifies (has_number s.frozen.now) (numbered_from 0 tried) (refused reason) → (rest : List LfHypothesis) → All (IsAtomIn u) rest →
-      length (premises_from 0 (type_of s.onward.now.ty.now)) ≤ length (chosen ++ rest) → (entries : List LfAssigned) →
-      unifier_of u.sig.now (goals ++ (tuple_offer o (chosen ++ rest)).opened.fresh) g.context (freezing (tuple_offer o (chosen ++ rest)).outcome goals g) (tuple_offer o (chosen ++ rest)).equations ≡ solved entries → ⊥
-  solved_never reason refuses rest rest_are enough entries ends =
-      let c = tuple_offer o (chosen ++ rest) in
-      let among = goals ++ c.opened.fresh in
-      let shaped = (is_usable o is.onward (chosen ++ rest) (All-append (IsAtomIn u) chosen rest chosen_are rest_are)).equations_are_shaped in
-      let frozen = has_number s.frozen.now in
-      let first = first_equations rest enough in
-      let also : unifier_of u.sig.now among g.context frozen c.equations ≡ solved entries =
-      unifiers_look_at_what_occurs u.sig.now u.sig.now among among g.context g.context (freezing c.outcome goals g) frozen c.equations shaped shaped
-      (λ m mentioned. is_one_of_all s.frozen.now m ∙ ap (list_any (nat_eq m)) is.frozen_are) ∙ ends in
-      let solves = (unifiers_are_the_one_end u.sig.now among g.context frozen c.equations shaped (solved entries)).1 (sym also) in
-      never_solved frozen tried first.0 reason entries refuses (subst (λ l. Unifies frozen (numbered_from 0 l) (solved entries)) first.1 solves)
+    abbrev pub among : Scope
+    among = scope_in u.sig.now (goals ++ (tuple_offer s.onward.now hs).opened.fresh) g.context
 
-  pub nothing_comes : (reason : Reason) → Unifies (has_number s.frozen.now) (numbered_from 0 tried) (refused reason) → NothingComes o chosen
-  nothing_comes reason refuses rest rest_are enough =
-      none_completed (tuple_offer o (chosen ++ rest)) (unifier_of u.sig.now (goals ++ (tuple_offer o (chosen ++ rest)).opened.fresh) g.context (freezing (tuple_offer o (chosen ++ rest)).outcome goals g) (tuple_offer o (chosen ++ rest)).equations)
-      (solved_never reason refuses rest rest_are enough)
-    where
-      none_completed : (c : LfCandidate) (e : Ending) → ((entries : List LfAssigned) → e ≡ solved entries → ⊥) → completed u.sig.now u.first goals g c e ≡ None
-      none_completed c (refused why) never = refl
-      none_completed c (solved entries) never = absurd (never entries refl)
+    equations_are : c.equations ≡ tried hs
+    equations_are =
+        let type = type_of s.onward.now.ty.now in
+        let ks = premises_from 0 type in
+        let agree = openings_agree g.context (places_of g.context) u.first type hs is.tuple enough is.enough in
+        same_equations type (opening_for o hs) (opening_for o is.tuple) ks hs agree is.onward.take_atoms
+        ∙ are_between type (opening_for o is.tuple) ks hs ∙ ap (λ atoms. equations_between atoms hs) (sym is.premises_are)
 
-  -- So it is where the unifier's answer is no solution.
-  pub refusal_means : (equations : List (LfAtom × LfAtom)) (unified : Unified) → equations ≡ tried → Unifies (has_number s.frozen.now) (numbered_from 0 equations) (ending_of unified) → not (is_solved unified) ≡ true →
-      NothingComes o chosen
-  refusal_means equations unified are ends unsolved =
-      let why = refused_by unified unsolved in
-      nothing_comes why.0 (subst₂ (λ l e. Unifies (has_number s.frozen.now) (numbered_from 0 l) e) are why.1 ends)
+    offered_shaped : ShapedEquations kinds_known among (numbered_from 0 c.equations)
+    offered_shaped = (is_usable o is.onward hs all).equations_are_shaped
+
+    pub tried_are_shaped : ShapedEquations kinds_known among (numbered_from 0 (tried hs))
+    tried_are_shaped = subst (λ l. ShapedEquations kinds_known among (numbered_from 0 l)) equations_are offered_shaped
+
+    solves_tried : (entries : List LfAssigned) → unifier_of u.sig.now (goals ++ c.opened.fresh) g.context (freezing c.outcome goals g) c.equations ≡ solved entries →
+        Unifies (has_number s.frozen.now) (numbered_from 0 (tried hs)) (solved entries)
+    solves_tried entries ends =
+        let fresh = goals ++ c.opened.fresh in
+        let frozen = has_number s.frozen.now in
+        let also : unifier_of u.sig.now fresh g.context frozen c.equations ≡ solved entries =
+        unifiers_look_at_what_occurs u.sig.now u.sig.now fresh fresh g.context g.context (freezing c.outcome goals g) frozen c.equations offered_shaped offered_shaped
+        (λ m mentioned. is_one_of_all s.frozen.now m ∙ ap (list_any (nat_eq m)) is.frozen_are) ∙ ends in
+        subst (λ l. Unifies frozen (numbered_from 0 l) (solved entries)) equations_are
+        ((unifiers_are_the_one_end u.sig.now fresh g.context frozen c.equations offered_shaped (solved entries)).1 (sym also))
+
+    -- Nothing comes of a tuple whose equations are never solved.
+    pub none_of : ((entries : List LfAssigned) → Unifies (has_number s.frozen.now) (numbered_from 0 (tried hs)) (solved entries) → ⊥) →
+        application_of u.sig.now u.first goals g (tuple_offer s.onward.now hs) ≡ None
+    none_of never =
+        none_completed (tuple_offer s.onward.now hs) (unifier_of u.sig.now (goals ++ (tuple_offer s.onward.now hs).opened.fresh) g.context (freezing (tuple_offer s.onward.now hs).outcome goals g) (tuple_offer s.onward.now hs).equations)
+        (λ entries ends. never entries (solves_tried entries ends))
+      where
+        none_completed : (x : LfCandidate) (e : Ending) → ((entries : List LfAssigned) → e ≡ solved entries → ⊥) → completed u.sig.now u.first goals g x e ≡ None
+        none_completed x (refused why) never = refl
+        none_completed x (solved entries) never = absurd (never entries refl)
+
+  module _ (chosen : List LfHypothesis) (chosen_are : All (IsAtomIn s.onward.now.usage.now) chosen) where
+    pub is_shaped_problem : IsShapedProblem (tried chosen)
+    is_shaped_problem =
+        let all = All-append (IsAtomIn u) chosen is.tuple chosen_are is.atoms in
+        let enough : length (premises_from 0 (type_of s.onward.now.ty.now)) ≤ length (chosen ++ is.tuple) = omega (arith, is.enough, length-append chosen is.tuple) in
+        let first = between-append (map seen_atom s.premises.now) chosen is.tuple in
+        let numbers = numbered-append 0 (tried chosen) first.0 in
+        let Γ = among (chosen ++ is.tuple) all enough in
+        let shaped : ShapedEquations kinds_known Γ (numbered_from 0 (tried chosen) ++ numbers.0) =
+        subst (ShapedEquations kinds_known Γ) (ap (numbered_from 0) first.1 ∙ numbers.1) (tried_are_shaped (chosen ++ is.tuple) all enough) in
+        (kinds_known, Γ, All-append_left (ShapedEquation kinds_known Γ) (numbered_from 0 (tried chosen)) numbers.0 shaped)
+
+    nothing_comes : (reason : Reason) → Unifies (has_number s.frozen.now) (numbered_from 0 (tried chosen)) (refused reason) → NothingComes o chosen
+    nothing_comes reason refuses rest rest_are enough =
+        let first = between-append (map seen_atom s.premises.now) chosen rest in
+        none_of (chosen ++ rest) (All-append (IsAtomIn u) chosen rest chosen_are rest_are) enough
+        (λ entries solves. never_solved (has_number s.frozen.now) (tried chosen) first.0 reason entries refuses
+        (subst (λ l. Unifies (has_number s.frozen.now) (numbered_from 0 l) (solved entries)) first.1 solves))
+
+    -- So it is where the unifier's answer is no solution.
+    pub refusal_means : (equations : List (LfAtom × LfAtom)) (unified : Unified) → equations ≡ tried chosen → Unifies (has_number s.frozen.now) (numbered_from 0 equations) (ending_of unified) → not (is_solved unified) ≡ true →
+        NothingComes o chosen
+    refusal_means equations unified are ends unsolved =
+        let why = refused_by unified unsolved in
+        nothing_comes why.0 (subst₂ (λ l e. Unifies (has_number s.frozen.now) (numbered_from 0 l) e) are why.1 ends)
 
 -- The tuples of some length.
 good_tuples : (P : LfHypothesis → Type 0) (count : ℕ) (hs : List LfHypothesis) → All P hs → All (λ t. All P t × (length t ≡ count)) (tuples count hs)
@@ -178,3 +203,8 @@ module _ (o : Onward) (is : IsOnward o) (h : Hypothesis) (some : 0 < length o.hy
 
   pub tuple_length : length (map seen_hypothesis tuple) ≡ length o.premises.now
   tuple_length = ap length tuple_is ∙ length-replicate (length o.premises.now) (seen_hypothesis h)
+
+-- Where nothing is awaited, nothing comes.
+pub nothing_awaited : (o : Onward) (chosen : List LfHypothesis) (found : Option Atom) → ((a : Atom) → found ≡ Some a → ⊥) → Awaits o chosen found → NothingComes o chosen
+nothing_awaited o chosen None never nothing = nothing
+nothing_awaited o chosen (Some a) never nothing = absurd (never a refl)

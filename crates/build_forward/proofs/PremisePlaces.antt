@@ -1,15 +1,18 @@
 -- The premises of a type, and of each what it is fixed to.
-use Rattle.std.proofs.Common.{◌≡◌, ℕ, zero, suc, ◌<◌, ◌≤◌, Bool, true, false, not, List, [], ◌∷◌, ◌++◌, All, length, get_or, drop, map, refl, sym, ap, ◌∙◌, subst, arith}
+use Rattle.std.proofs.Common.{◌≡◌, ℕ, zero, suc, ◌<◌, ◌≤◌, Bool, true, false, not, List, [], ◌∷◌, ◌++◌, All, length, get_or, drop, map, Some, slice_get, refl, sym, ap, ap₂, ◌∙◌, subst, arith}
 use Rattle.std.specs.Prelude.{if◌then◌else◌}
-use Rattle.std.proofs.lemmas.List.{append-nil, at_drop_all}
+use Rattle.std.proofs.lemmas.List.{append-nil, at_drop_all, length-map}
 use Rattle.std.proofs.lemmas.List.Elements.{All-head, All-tail}
 use Rattle.lf_definitions.specs.Syntax.{bound, Spine, LfType, pi, family, LfAtom, Context, pis, conclusion_atom}
 use Rattle.head_laws.specs.Mentions.{occurs_in_type}
+use Rattle.lf_terms.specs.declared.ty.Atom.{Atom}
+use Rattle.lf_terms.specs.Types.{type_of, atom_of}
 use Rattle.opening_laws.specs.Openings.{LfOpened}
-use Rattle.applications.specs.Candidates.{LfHypothesis, premise_marks, premises_from, paired, premise_equations}
+use Rattle.applications.specs.Candidates.{LfHypothesis, premise_marks, premises_from, argument_type, paired}
 use Rattle.build_shared.specs.declared.hypotheses.Hypothesis.{Hypothesis}
-use Rattle.build_shared.specs.Seen.{seen_hypothesis}
-use Rattle.build_forward.specs.Onwards.{marked_from}
+use Rattle.build_shared.specs.Seen.{seen_atom, seen_hypothesis}
+use Rattle.build_forward.specs.declared.onward.Onward.{Onward}
+use Rattle.build_forward.specs.Onwards.{marked_from, IsOnward, premise_types, equations_between}
 
 pub marked-premises : (i : ℕ) (type : LfType) → marked_from i (premise_marks type) ≡ premises_from i type
 marked-premises i (family f args) = refl
@@ -46,13 +49,32 @@ module _ (premises : List ℕ) (chosen : List Hypothesis) (i : ℕ) where
       nothing [] = refl
       nothing (k ∷ ks) = refl
 
-  module _ (type : LfType) (o : LfOpened) where
-    abbrev pub equations_left : List (LfAtom × LfAtom)
-    equations_left = premise_equations type o (drop i premises) (map seen_hypothesis (drop i chosen))
+-- So for the types of the premises.
+module _ (premises : List Atom) (chosen : List Hypothesis) (i : ℕ) where
+  abbrev pub equations_left : List (LfAtom × LfAtom)
+  equations_left = equations_between (map seen_atom (drop i premises)) (map seen_hypothesis (drop i chosen))
 
-    pub no_equation : length chosen ≤ i → equations_left ≡ []
-    no_equation past = at_drop_all (λ hs. premise_equations type o (drop i premises) (map seen_hypothesis hs)) chosen i past ∙ nothing (drop i premises)
-      where
-        nothing : (ks : List ℕ) → premise_equations type o ks [] ≡ []
-        nothing [] = refl
-        nothing (k ∷ ks) = refl
+  pub no_equation : length chosen ≤ i → equations_left ≡ []
+  no_equation past = at_drop_all (λ hs. equations_between (map seen_atom (drop i premises)) (map seen_hypothesis hs)) chosen i past ∙ nothing (map seen_atom (drop i premises))
+    where
+      nothing : (atoms : List LfAtom) → equations_between atoms [] ≡ []
+      nothing [] = refl
+      nothing (a ∷ atoms) = refl
+
+-- The item that is read is the one at the place.
+pub read_at : (xs : List Atom) (k : ℕ) (x : Atom) → k < length xs → x ≡ get_or xs k x → slice_get (map seen_atom xs) k ≡ Some (seen_atom x)
+read_at [] k x within is = absurd (omega (arith, within))
+read_at (y ∷ xs) zero x within is = ap (λ z. Some (seen_atom z)) (sym is)
+read_at (y ∷ xs) (suc k) x within is = read_at xs k x (omega (arith, within)) is
+
+-- An equal copy is seen as the same.
+pub same_seen : (a b : Atom) → atom_of a ≡ atom_of b → seen_atom a ≡ seen_atom b
+same_seen a b e =
+    let families : a.family ≡ b.family = cc in
+    let args : a.args ≡ b.args = cc in
+    ap₂ (λ f us. record { atom_family = f; atom_args = us }) families args
+
+-- There is a type for each premise.
+pub as_many : (o : Onward) → IsOnward o → (atoms : List Atom) (opened : LfOpened) → map seen_atom atoms ≡ premise_types o opened → length atoms ≡ length o.premises.now
+as_many o is atoms opened are =
+    sym (length-map atoms seen_atom) ∙ ap length are ∙ length-map (premises_from 0 (type_of o.ty.now)) (argument_type (type_of o.ty.now) opened) ∙ ap length (sym is.premises_are)

@@ -1,5 +1,5 @@
 -- A type is opened to the same premises, whatever hypotheses stand for these: nothing mentions a premise.
-use Rattle.std.proofs.Common.{◌≡◌, ℕ, zero, suc, ◌≤◌, Bool, true, false, not, Option, Some, None, List, [], ◌∷◌, ◌++◌, All, length, take, refl, sym, ap, ap₂, ◌∙◌, subst, arith}
+use Rattle.std.proofs.Common.{◌≡◌, ℕ, zero, suc, ◌≤◌, Bool, true, false, not, Option, Some, None, List, [], ◌∷◌, ◌++◌, All, length, map, take, slice_get, refl, sym, ap, ap₂, ◌∙◌, subst, arith}
 use Rattle.std.specs.Prelude.{is_some, if◌then◌else◌}
 use Rattle.std.proofs.lemmas.Bool.{eq-eqb, ne_eqb}
 use Rattle.std.proofs.lemmas.List.Elements.{All-head, All-tail}
@@ -15,6 +15,7 @@ use Rattle.opening_laws.specs.Openings.{LfOpened, fixed_to}
 use Rattle.applications.specs.OpenedTypes.{opened_at, opened_from, opening_of}
 use Rattle.applications.specs.Candidates.{LfHypothesis, premises_from, paired, first_args, argument_atom, argument_type, premise_equations}
 use Rattle.application_laws.specs.Conditions.{HasAtomAt}
+use Rattle.build_forward.specs.Onwards.{equations_between}
 use Rattle.application_laws.proofs.Arguments.{premises_after}
 
 -- Two lists of terms are the same at each binder of a type that is mentioned.
@@ -109,7 +110,7 @@ openings_agree ctx kept n type hs ks enough also =
     opened_agree _ kept _ _ (paired (premises_from 0 type) hs) (paired (premises_from 0 type) ks) 0 type stays stays n
     (paired_fixes (paired (premises_from 0 type) hs) 0 type hs enough (λ j less. refl)) (paired_fixes (paired (premises_from 0 type) ks) 0 type ks also (λ j less. refl))
 
--- The equations of premises are those of each such opening, and those of the first premises come first.
+-- The equations of premises are those of each such opening.
 pub same_equations : (type : LfType) (o x : LfOpened) (ks : List ℕ) (hs : List LfHypothesis) → AgreeFor type o.terms x.terms → All (HasAtomAt type) ks → premise_equations type o ks hs ≡ premise_equations type x ks hs
 same_equations type o x [] hs agree atoms = refl
 same_equations type o x (k ∷ ks) [] agree atoms = refl
@@ -117,8 +118,20 @@ same_equations type o x (k ∷ ks) (h ∷ hs) agree atoms =
     let has = All-head (HasAtomAt type) k ks atoms in
     ap₂ (λ a l. (a, conclusion_atom h.type) ∷ l) (same_argument type k has.0 o x has.1 agree) (same_equations type o x ks hs agree (All-tail (HasAtomAt type) k ks atoms))
 
-pub equations-append : (type : LfType) (o : LfOpened) (ks : List ℕ) (hs more : List LfHypothesis) → (others : List (LfAtom × LfAtom)) × (premise_equations type o ks (hs ++ more) ≡ premise_equations type o ks hs ++ others)
-equations-append type o [] hs more = ([], refl)
-equations-append type o (k ∷ ks) [] more = (premise_equations type o (k ∷ ks) more, refl)
-equations-append type o (k ∷ ks) (h ∷ hs) more =
-    let r = equations-append type o ks hs more in (r.0, ap (λ l. (argument_type type o k, conclusion_atom h.type) ∷ l) r.1)
+-- They are those between the types of the premises and the hypotheses, and those of the first premises come first.
+pub are_between : (type : LfType) (o : LfOpened) (ks : List ℕ) (hs : List LfHypothesis) → premise_equations type o ks hs ≡ equations_between (map (argument_type type o) ks) hs
+are_between type o [] hs = refl
+are_between type o (k ∷ ks) [] = refl
+are_between type o (k ∷ ks) (h ∷ hs) = ap (λ l. (argument_type type o k, conclusion_atom h.type) ∷ l) (are_between type o ks hs)
+
+pub between-append : (atoms : List LfAtom) (hs more : List LfHypothesis) → (others : List (LfAtom × LfAtom)) × (equations_between atoms (hs ++ more) ≡ equations_between atoms hs ++ others)
+between-append [] hs more = ([], refl)
+between-append (a ∷ atoms) [] more = (equations_between (a ∷ atoms) more, refl)
+between-append (a ∷ atoms) (h ∷ hs) more = let r = between-append atoms hs more in (r.0, ap (λ l. (a, conclusion_atom h.type) ∷ l) r.1)
+
+-- After some hypotheses the next one has the type of the next premise.
+pub between-next : (atoms : List LfAtom) (hs : List LfHypothesis) (a : LfAtom) (h : LfHypothesis) (more : List LfHypothesis) → slice_get atoms (length hs) ≡ Some a →
+    (others : List (LfAtom × LfAtom)) × (equations_between atoms (hs ++ h ∷ more) ≡ equations_between atoms hs ++ (a, conclusion_atom h.type) ∷ others)
+between-next [] hs a h more there = absurd cc
+between-next (b ∷ atoms) [] a h more there = let same : b ≡ a = cc in (equations_between atoms more, ap (λ x. (x, conclusion_atom h.type) ∷ equations_between atoms more) same)
+between-next (b ∷ atoms) (k ∷ hs) a h more there = let r = between-next atoms hs a h more there in (r.0, ap (λ l. (b, conclusion_atom k.type) ∷ l) r.1)

@@ -1,2 +1,3 @@
 pub mod Onwards
 pub mod Sieves
+pub mod Clashes

@@ -1,6 +1,6 @@
 -- A rule that goes onward from hypotheses, and what it offers for tuples of these.
 use Rattle.std.specs.Prelude.{◌≡◌, ℕ, suc, List, [], ◌∷◌, ◌++◌, map, Bool, true, false, Some, All}
-use Rattle.lf_definitions.specs.Syntax.{Context}
+use Rattle.lf_definitions.specs.Syntax.{LfAtom, Context, conclusion_atom}
 use Rattle.lf_definitions.specs.ShapedGoals.{kind_shapes_in, scope_in}
 use Rattle.lf_definitions.specs.Typing.{type_at}
 use Rattle.lf_definitions.specs.Signatures.{constant_types}
@@ -11,7 +11,7 @@ use Rattle.meta_goals.specs.GoalsOf.{goals_of}
 use Rattle.opening_laws.specs.Openings.{LfOpened}
 use Rattle.applications.specs.OpenedTypes.{opening_of}
 use Rattle.applications.specs.Methods.{Method, goes_forward, takes_apart, LfCandidate}
-use Rattle.applications.specs.Candidates.{LfHypothesis, places_of, premises_from, premise_marks, paired, without, tuples, onward}
+use Rattle.applications.specs.Candidates.{LfHypothesis, places_of, premises_from, premise_marks, argument_type, paired, without, tuples, onward}
 use Rattle.application_laws.specs.Conditions.{HasAtomAt}
 use Rattle.application_laws.proofs.Lists.{IsAtomicHypothesis}
 use Rattle.application_laws.proofs.Hypotheses.{IsHypothesisFrom}
@@ -65,6 +65,16 @@ pub record IsOnward (o : Onward) : Type 0 where
 abbrev pub opening_for : Onward → List LfHypothesis → LfOpened
 opening_for o hs =
     opening_of o.usage.now.goal.now.ctx (places_of o.usage.now.goal.now.ctx) (paired (premises_from 0 (type_of o.ty.now)) hs) o.usage.now.first (type_of o.ty.now)
+
+-- the types of the premises of what it is opened to
+abbrev pub premise_types : Onward → LfOpened → List LfAtom
+premise_types o opened = map (argument_type (type_of o.ty.now) opened) (premises_from 0 (type_of o.ty.now))
+
+-- The first of some atoms are to be the types of hypotheses.
+abbrev pub equations_between : List LfAtom → List LfHypothesis → List (LfAtom × LfAtom)
+equations_between [] hs = []
+equations_between (a ∷ atoms) [] = []
+equations_between (a ∷ atoms) (h ∷ hs) = (a, conclusion_atom h.type) ∷ equations_between atoms hs
 
 -- what the rule offers for a tuple
 abbrev pub tuple_offer : Onward → List LfHypothesis → LfCandidate

@@ -3,6 +3,7 @@
 //! Proved: the answer is the list of applications that the definition gives, in order.
 #![tactic(auto)]
 
+mod clashes;
 mod equations;
 mod onward;
 mod premises;

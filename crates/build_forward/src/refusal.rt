@@ -1,42 +1,63 @@
 //! Tuples of which nothing comes.
 
-ghost use Rattle.std.specs.Prelude.{◌≡◌, ◌≤◌, ◌++◌, true, map, length, All, IfOk, OnOk};
+ghost use Rattle.std.specs.Prelude.{◌≡◌, ◌≤◌, ◌<◌, ◌++◌, true, map, length, All, IfOk, OnOk};
 ghost use Rattle.lf_definitions.specs.GoalLists.{all_goals, ids};
 ghost use Rattle.meta_goals.specs.GoalsOf.{goals_of};
 ghost use Rattle.build_shared.specs.Seen.{seen_hypothesis};
 ghost use Rattle.build_forward.specs.Onwards.{IsAtomIn};
-ghost use Rattle.build_forward.specs.Sieves.{IsSieve, NothingComes, is_solved};
+ghost use Rattle.build_forward.specs.Sieves.{IsSieve, NothingComes, Awaits, is_solved};
 
-use crate::equations::equations_for;
+use crate::equations::equations_between;
 use crate::onward::Onward;
 use basics::{Ids, NoMemory};
 use build_shared::Hypothesis;
-use lf_terms::GoalList;
+use lf_terms::{Atom, GoalList};
 use meta_goals::Goals;
-use meta_openings::Opened;
+use meta_goals::instantiate::instantiate_atom;
 use meta_unify::{Unified, unify};
 use std::alloc::Global;
 
-// What goes onward, what the constant's type is opened to for some tuple, and the numbers of all goals. Nothing mentions a premise, so the
-// premises are the same for all tuples.
+// What goes onward, the types of its premises in what the constant's type is opened to for some tuple, and the numbers of all goals. Nothing
+// mentions a premise, so these types are the same for all tuples.
 #[derive(Clone, Copy)]
 pub struct Sieve<'a> {
     pub onward: &'a Onward<'a>,
-    pub opened: &'a Opened,
+    pub premises: &'a [Atom],
     pub frozen: &'a Ids,
 }
 
-// Whether the first premises are refused for these hypotheses. Then so are all premises, whatever hypotheses come after these.
+// Whether the premises are refused for these hypotheses.
 pub fn is_refused(sieve: &Sieve<'_>, chosen: &[Hypothesis]) -> Result<bool, NoMemory>
     requires sieve { IsSieve sieve.now }
     requires chosen { All (IsAtomIn sieve.now.onward.now.usage.now) (map seen_hypothesis chosen.now) }
     requires few { length chosen.now ≤ length sieve.now.onward.now.premises.now }
     ensures { IfOk result (λ refused. refused ≡ true → NothingComes sieve.now.onward.now (map seen_hypothesis chosen.now)) }
 {
-    let equations = equations_for(sieve.onward, sieve.opened, chosen)?;
-    let unified = unify(sieve.onward.usage.alloc, sieve.frozen, &equations)?;
+    let alloc = sieve.onward.usage.alloc;
+    let equations = equations_between(alloc, sieve.premises, chosen)?;
+    let unified = unify(alloc, sieve.frozen, &equations)?;
     let solved = is_solved(&unified);
     Ok(!solved)
+}
+
+// What the first premises, once these hypotheses stand for them, leave of the next one. None where they are refused: then so are all
+// premises, whatever hypotheses come after these.
+pub fn awaited_after(sieve: &Sieve<'_>, chosen: &[Hypothesis]) -> Result<Option<Atom>, NoMemory>
+    requires sieve { IsSieve sieve.now }
+    requires chosen { All (IsAtomIn sieve.now.onward.now.usage.now) (map seen_hypothesis chosen.now) }
+    requires few { length chosen.now < length sieve.now.onward.now.premises.now }
+    ensures { IfOk result (λ found. Awaits sieve.now.onward.now (map seen_hypothesis chosen.now) found) }
+{
+    let alloc = sieve.onward.usage.alloc;
+    let equations = equations_between(alloc, sieve.premises, chosen)?;
+    let unified = unify(alloc, sieve.frozen, &equations)?;
+    let Unified::Solved(assign) = &unified else {
+        return Ok(None);
+    };
+    let premises = sieve.premises;
+    let place = chosen.len();
+    let atom = instantiate_atom(alloc, assign, &premises[place])?;
+    Ok(Some(atom))
 }
 
 fn is_solved(unified: &Unified) -> bool

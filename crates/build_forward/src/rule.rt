@@ -14,6 +14,7 @@ ghost use Rattle.build_shared.specs.RuleUses.{IsRuleUse, AddsWhatCounts, KnowSha
 ghost use Rattle.build_shared.specs.Seen.{seen_hypothesis, seen_application};
 ghost use Rattle.build_forward.specs.Onwards.{AddsHypothesis, drops_hypotheses, onward_method, IsOnward, tuple_offers};
 
+use crate::equations::premise_types;
 use crate::onward::{Onward, opened_for};
 use crate::premises::premises_of;
 use crate::refusal::{Sieve, all_numbers};
@@ -33,7 +34,8 @@ use std::alloc::Global;
 /// The applications of a rule to the first goal of a list, in the lexicographic order of the hypotheses that stand for its premises: for
 /// each tuple of hypotheses without binders the constant with these, where it counts. Each entry has the shapes of its goal's context. None
 /// where there is no goal. `NoMemory` comes where a growth is refused, or a number is past its type. Tuples that begin with hypotheses for
-/// which the first premises are refused are passed over after one unification.
+/// which the first premises are refused are passed over after one unification, and after a walk over two types where the last of these
+/// hypotheses has a variable or a constant in the place of another.
 pub fn applications(
     alloc: Global,
     sig: &Signature,
@@ -119,10 +121,11 @@ fn found_by(onward: &Onward<'_>) -> Result<Vec<App>, NoMemory>
     }
     let tuple = repeated(alloc, &onward.hyps[0], count)?;
     let opened = opened_for(onward, tuple.as_slice())?;
+    let premises = premise_types(onward, &opened)?;
     let frozen = all_numbers(alloc, onward.usage.goals)?;
     let sieve = Sieve {
         onward,
-        opened: &opened,
+        premises: premises.as_slice(),
         frozen: &frozen,
     };
     go_on(&sieve, none.as_slice(), count, &mut found)?;
