@@ -39,7 +39,7 @@ use std::thread::Threads;
 use theorem_search::prove_theorem;
 use tree_shared::Gate;
 
-/// Does what the words say, with so many workers beside the caller as they say. It may wait for these.
+/// Does what the words say, with so many workers as they say, the caller among them. It may wait for the others.
 ///
 /// The word `prove`, and then `--workers N`, `--budget N` and `--trace`, each at most once and in any order, read a file from the source,
 /// search a proof of each of its theorems in order, and write each answer to the sink as soon as it is found. N is written by one to five
