@@ -1,6 +1,6 @@
 -- Nothing comes of a tuple whose first premises are refused.
-use Rattle.std.proofs.Common.{◌≡◌, ℕ, zero, suc, ◌+◌, ◌<◌, ◌≤◌, true, Option, None, Some, List, [], ◌∷◌, ◌++◌, All, length, map, refl, sym, ap, ap₂, ◌∙◌, subst, subst₂, length-append, get_or, replicate, arith}
-use Rattle.std.specs.Prelude.{nat_eq, ◌||◌, not}
+use Rattle.std.proofs.Common.{◌≡◌, ℕ, zero, suc, ◌+◌, ◌<◌, ◌≤◌, Option, None, Some, List, [], ◌∷◌, ◌++◌, All, length, map, refl, sym, ap, ap₂, ◌∙◌, subst, subst₂, length-append, get_or, replicate, arith}
+use Rattle.std.specs.Prelude.{nat_eq, ◌||◌}
 use Rattle.std.specs.Cmp.{nat_eq_equiv}
 use Rattle.std.specs.List.{list_any}
 use Rattle.std.proofs.lemmas.List.{append-nil, map-append, length-replicate, replicate-append-replicate}
@@ -39,7 +39,7 @@ use Rattle.build_shared.specs.Seen.{seen_atom, seen_hypothesis, seen_application
 use Rattle.build_forward.specs.declared.onward.Onward.{Onward}
 use Rattle.build_forward.specs.declared.refusal.Sieve.{Sieve}
 use Rattle.build_forward.specs.Onwards.{IsOnward, IsAtomIn, opening_for, equations_between, tuple_offer, tuple_offers}
-use Rattle.build_forward.specs.Sieves.{IsSieve, NothingComes, Awaits, is_solved}
+use Rattle.build_forward.specs.Sieves.{IsSieve, NothingComes, Awaits}
 use Rattle.build_forward.proofs.PremisePlaces.{read_holds}
 use Rattle.build_forward.proofs.OpenedTuples.{is_usable}
 use Rattle.build_forward.proofs.SameArguments.{openings_agree, same_equations, are_between, between-append}
@@ -49,21 +49,13 @@ is_one_of_all : (ns : List ℕ) (n : ℕ) → has_number ns n ≡ list_any (nat_
 is_one_of_all [] n = refl
 is_one_of_all (m ∷ ns) n = ap₂ (λ a b. a || b) (nat_eq_equiv.symm m n) (is_one_of_all ns n)
 
-pub unsolved : (unified : Unified) → ((bindings : List LfBinding) → unified ≡ Solved bindings → ⊥) → not (is_solved unified) ≡ true
-unsolved (Solved bindings) never = absurd (never bindings refl)
-unsolved (Clash path) never = refl
-unsolved (Occurs m) never = refl
-unsolved (Escapes path) never = refl
-unsolved (Prune path) never = refl
-unsolved (NotPattern path) never = refl
-
-refused_by : (unified : Unified) → not (is_solved unified) ≡ true → (reason : Reason) × (ending_of unified ≡ refused reason)
-refused_by (Solved assign) unsolved = absurd cc
-refused_by (Clash path) unsolved = (clash path, refl)
-refused_by (Occurs m) unsolved = (occurs m, refl)
-refused_by (Escapes path) unsolved = (escapes path, refl)
-refused_by (Prune path) unsolved = (prune path, refl)
-refused_by (NotPattern path) unsolved = (not_pattern path, refl)
+refused_by : (unified : Unified) → ((bindings : List LfBinding) → unified ≡ Solved bindings → ⊥) → (reason : Reason) × (ending_of unified ≡ refused reason)
+refused_by (Solved bindings) never = absurd (never bindings refl)
+refused_by (Clash path) never = (clash path, refl)
+refused_by (Occurs m) never = (occurs m, refl)
+refused_by (Escapes path) never = (escapes path, refl)
+refused_by (Prune path) never = (prune path, refl)
+refused_by (NotPattern path) never = (not_pattern path, refl)
 
 module _ (s : Sieve) (is : IsSieve s) where
   abbrev o : Onward
@@ -148,10 +140,10 @@ module _ (s : Sieve) (is : IsSieve s) where
         (subst (λ l. Unifies (has_number s.frozen.now) (numbered_from 0 l) (solved entries)) first.1 solves))
 
     -- So it is where the unifier's answer is no solution.
-    pub refusal_means : (equations : List (LfAtom × LfAtom)) (unified : Unified) → equations ≡ tried chosen → Unifies (has_number s.frozen.now) (numbered_from 0 equations) (ending_of unified) → not (is_solved unified) ≡ true →
+    pub refusal_means : (equations : List (LfAtom × LfAtom)) (unified : Unified) → equations ≡ tried chosen → Unifies (has_number s.frozen.now) (numbered_from 0 equations) (ending_of unified) → ((bindings : List LfBinding) → unified ≡ Solved bindings → ⊥) →
         NothingComes o chosen
-    refusal_means equations unified are ends unsolved =
-        let why = refused_by unified unsolved in
+    refusal_means equations unified are ends never =
+        let why = refused_by unified never in
         nothing_comes why.0 (subst₂ (λ l e. Unifies (has_number s.frozen.now) (numbered_from 0 l) e) are why.1 ends)
 
 -- The tuples of some length.

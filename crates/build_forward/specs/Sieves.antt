@@ -1,13 +1,11 @@
 -- A sieve of tuples, which passes over those that begin with hypotheses of which nothing comes.
-use Rattle.std.specs.Prelude.{◌≡◌, ◌≤◌, Bool, true, false, List, [], ◌∷◌, ◌++◌, map, length, Option, Some, None, All}
+use Rattle.std.specs.Prelude.{◌≡◌, ◌≤◌, List, [], ◌∷◌, ◌++◌, map, length, Option, Some, None, All}
 use Rattle.lf_definitions.specs.Syntax.{LfAtom, conclusion_atom}
 use Rattle.lf_definitions.specs.GoalLists.{all_goals, ids}
 use Rattle.lf_terms.specs.declared.ty.Atom.{Atom}
 use Rattle.lf_terms.specs.Targets.{goal_of}
 use Rattle.lf_terms.specs.Types.{type_of}
 use Rattle.meta_goals.specs.GoalsOf.{goals_of}
-use Rattle.meta_unify.specs.declared.unified.Unified.{Unified}
-use Rattle.meta_unify.specs.declared.unified.Unified.TheVariants.{Solved}
 use Rattle.applications.specs.Candidates.{LfHypothesis, premises_from}
 use Rattle.applications.specs.Applications.{application_of}
 use Rattle.build_shared.specs.Seen.{seen_atom}
@@ -40,7 +38,3 @@ ClashesComeToNothing o chosen a =
 abbrev pub Awaits : Onward → List LfHypothesis → Option Atom → Type 0
 Awaits o chosen None = NothingComes o chosen
 Awaits o chosen (Some a) = ClashesComeToNothing o chosen (seen_atom a)
-
-abbrev pub is_solved : Unified → Bool
-is_solved (Solved assign) = true
-is_solved _ = false

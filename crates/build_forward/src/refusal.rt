@@ -1,11 +1,11 @@
 //! Tuples of which nothing comes.
 
-ghost use Rattle.std.specs.Prelude.{◌≡◌, ◌≤◌, ◌<◌, ◌++◌, true, map, length, All, IfOk, OnOk};
+ghost use Rattle.std.specs.Prelude.{◌≡◌, ◌<◌, ◌++◌, map, length, All, IfOk, OnOk};
 ghost use Rattle.lf_definitions.specs.GoalLists.{all_goals, ids};
 ghost use Rattle.meta_goals.specs.GoalsOf.{goals_of};
 ghost use Rattle.build_shared.specs.Seen.{seen_hypothesis};
 ghost use Rattle.build_forward.specs.Onwards.{IsAtomIn};
-ghost use Rattle.build_forward.specs.Sieves.{IsSieve, NothingComes, Awaits, is_solved};
+ghost use Rattle.build_forward.specs.Sieves.{IsSieve, Awaits};
 
 use crate::equations::equations_between;
 use crate::onward::Onward;
@@ -26,20 +26,6 @@ pub struct Sieve<'a> {
     pub frozen: &'a Ids,
 }
 
-// Whether the premises are refused for these hypotheses.
-pub fn is_refused(sieve: &Sieve<'_>, chosen: &[Hypothesis]) -> Result<bool, NoMemory>
-    requires sieve { IsSieve sieve.now }
-    requires chosen { All (IsAtomIn sieve.now.onward.now.usage.now) (map seen_hypothesis chosen.now) }
-    requires few { length chosen.now ≤ length sieve.now.onward.now.premises.now }
-    ensures { IfOk result (λ refused. refused ≡ true → NothingComes sieve.now.onward.now (map seen_hypothesis chosen.now)) }
-{
-    let alloc = sieve.onward.usage.alloc;
-    let equations = equations_between(alloc, sieve.premises, chosen)?;
-    let unified = unify(alloc, sieve.frozen, &equations)?;
-    let solved = is_solved(&unified);
-    Ok(!solved)
-}
-
 // What the first premises, once these hypotheses stand for them, leave of the next one. None where they are refused: then so are all
 // premises, whatever hypotheses come after these.
 pub fn awaited_after(sieve: &Sieve<'_>, chosen: &[Hypothesis]) -> Result<Option<Atom>, NoMemory>
@@ -58,12 +44,6 @@ pub fn awaited_after(sieve: &Sieve<'_>, chosen: &[Hypothesis]) -> Result<Option<
     let place = chosen.len();
     let atom = instantiate_atom(alloc, assign, &premises[place])?;
     Ok(Some(atom))
-}
-
-fn is_solved(unified: &Unified) -> bool
-    ensures { result ≡ is_solved unified.now }
-{
-    matches!(unified, Unified::Solved(_))
 }
 
 // The numbers of all goals of a list.

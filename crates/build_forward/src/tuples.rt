@@ -8,7 +8,7 @@ ghost use Rattle.build_forward.specs.Sieves.{IsSieve, ClashesComeToNothing};
 
 use crate::clashes::atoms_clash;
 use crate::onward::{Onward, candidate_of};
-use crate::refusal::{Sieve, awaited_after, is_refused};
+use crate::refusal::{Sieve, awaited_after};
 use basics::NoMemory;
 use build_shared::rule_use::add_if_counts;
 use build_shared::{App, Hypothesis};
@@ -31,7 +31,7 @@ pub fn go_on(
     ensures shapes { OnOk result (KeepsShapes sieve.now.onward.now.usage.now found.old.items found.new.items) }
 {
     if left == 0 {
-        return end_with(sieve, chosen, found);
+        return add_tuple(sieve.onward, chosen, found);
     }
     let Some(awaited) = awaited_after(sieve, chosen)? else {
         return Ok(());
@@ -68,21 +68,6 @@ fn go_on_with(
     let longer = one_more(sieve.onward.usage.alloc, chosen, hyp)?;
     go_on(sieve, longer.as_slice(), left, found)?;
     Ok(())
-}
-
-// Adds what comes of a tuple, unless the premises are refused for it.
-fn end_with(sieve: &Sieve<'_>, chosen: &[Hypothesis], found: &mut Vec<App>) -> Result<(), NoMemory>
-    requires sieve { IsSieve sieve.now }
-    requires chosen { All (IsAtomIn sieve.now.onward.now.usage.now) (map seen_hypothesis chosen.now) }
-    requires count { length chosen.now ≡ length sieve.now.onward.now.premises.now }
-    ensures found { OnOk result (AddsWhatCounts sieve.now.onward.now.usage.now (tuple_offer sieve.now.onward.now (map seen_hypothesis chosen.now) ∷ []) found.old.items found.new.items) }
-    ensures shapes { OnOk result (KeepsShapes sieve.now.onward.now.usage.now found.old.items found.new.items) }
-{
-    let refused = is_refused(sieve, chosen)?;
-    if refused {
-        return Ok(());
-    }
-    add_tuple(sieve.onward, chosen, found)
 }
 
 // Adds what comes of a tuple.

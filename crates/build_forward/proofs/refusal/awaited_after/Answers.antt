@@ -8,7 +8,7 @@ use Rattle.meta_unify.specs.Walks.{IsShapedProblem, AnswerKnowsContexts}
 use Rattle.build_shared.specs.Seen.{seen_atom, seen_hypothesis}
 use Rattle.build_forward.specs.Onwards.{opening_for}
 use Rattle.build_forward.proofs.PremisePlaces.{as_many, read_at}
-use Rattle.build_forward.proofs.PassedTuples.{is_shaped_problem, refusal_means, unsolved}
+use Rattle.build_forward.proofs.PassedTuples.{is_shaped_problem, refusal_means}
 use Rattle.build_forward.proofs.ClashedTuples.{may_be_instantiated, clashes_come_to_nothing}
 use Rattle.build_forward.proofs.refusal.awaited_after.Goals as goal
 
@@ -52,4 +52,4 @@ returns c =
 pub returns-in_default : goal.returns-in_default
 returns-in_default c =
     refusal_means c.args.sieve.now c.requires.sieve (map seen_hypothesis c.args.chosen.now) c.requires.chosen c.in_ok-equations.equations c.in_ok-unified.unified c.in_ok-equations.ensures
-    c.in_ok-unified.ensures.ending (unsolved c.in_ok-unified.unified c.in_default.not-Solved)
+    c.in_ok-unified.ensures.ending c.in_default.not-Solved
