@@ -4,6 +4,7 @@ use Rattle.std.specs.Prelude.{nat_eq, ◌||◌}
 use Rattle.std.specs.Cmp.{nat_eq_equiv}
 use Rattle.std.specs.List.{list_any}
 use Rattle.std.proofs.lemmas.List.{map-append, append_assoc}
+use Rattle.std.proofs.lemmas.List.Folds.{list_any_at}
 use Rattle.lf_definitions.specs.Typing.{LfGoal}
 use Rattle.lf_definitions.specs.GoalLists.{ids}
 use Rattle.lf_terms.specs.declared.goal.Goal.{Goal}
@@ -21,6 +22,9 @@ only_number m n = or_false (nat_eq m n)
 pub any_number : (ns : List ℕ) (n : ℕ) → list_any (nat_eq n) ns ≡ has_number ns n
 any_number [] n = refl
 any_number (m ∷ ns) n = ap₂ (λ a b. a || b) (nat_eq_equiv.symm n m) (any_number ns n)
+
+pub number_at : (ns : List ℕ) (i n : ℕ) → i < length ns → nat_eq (get_or ns i 0) n ≡ true → has_number ns n ≡ true
+number_at ns i n less same = sym (any_number ns n) ∙ list_any_at (nat_eq n) ns i 0 less (nat_eq_equiv.symm n (get_or ns i 0) ∙ same)
 
 pub numbers_more : (xs : List Goal) (i : ℕ) (x : Goal) (old numbers new : List ℕ) → i < length xs → x ≡ get_or xs i x → numbers ≡ old ++ ids (map goal_of (take i xs)) → new ≡ numbers ++ x.id ∷ [] →
     new ≡ old ++ ids (map goal_of (take (i + 1) xs))

@@ -1,6 +1,6 @@
 //! Places of a context that are dropped, and whether types mention them.
 
-ghost use Rattle.std.specs.Prelude.{◌≡◌, ◌<◌, ◌++◌, [], ◌∷◌, length, not, replicate, All, IfOk, OnOk};
+ghost use Rattle.std.specs.Prelude.{◌≡◌, ◌<◌, ◌++◌, [], ◌∷◌, true, length, not, replicate, All, IfOk, OnOk, IsTrue};
 ghost use Rattle.std.specs.List.{list_all};
 ghost use Rattle.lf_definitions.specs.Syntax.{no_args, family, pis};
 ghost use Rattle.head_laws.specs.Mentions.{occurs_in_type};
@@ -14,17 +14,30 @@ use basics::{Ids, NoMemory};
 use lf_terms::{Terms, Ty, Tys};
 use std::alloc::Global;
 
-/// Whether a place is one of some places.
+/// Whether a place is one of some places. Of a list of all places it is the one at its own number, so these are not walked over.
 pub fn is_one_of(places: &Ids, place: u32) -> bool
     ensures { result ≡ has_number places.now place }
 {
     let items = places.as_slice();
+    if stands_at(items, place as usize, place) {
+        return true;
+    }
     for i in 0..items.len() {
         if items[i] == place {
             return true;
         }
     }
     false
+}
+
+// Whether a place stands at some number of a list.
+fn stands_at(items: &[u32], number: usize, place: u32) -> bool
+    ensures { IsTrue result → has_number items.now place ≡ true }
+{
+    if number >= items.len() {
+        return false;
+    }
+    items[number] == place
 }
 
 /// All places but those that are dropped, in their order.
@@ -49,7 +62,7 @@ fn add_unless(dropped: &Ids, place: u32, rest: &mut Ids) -> Result<(), NoMemory>
     rest.push(place)
 }
 
-/// Whether a type in a context with so many entries mentions none of those at some places.
+/// Whether a type in a context with so many entries mentions none of those at some places. Where there are none it is not walked over.
 pub fn mentions_none_of(
     alloc: Global,
     count: usize,
@@ -59,6 +72,9 @@ pub fn mentions_none_of(
     requires { All (λ place. place < count) dropped.now }
     ensures { IfOk result (λ test. test ≡ list_all (λ place. not (occurs_in_type (context_variable count place) (type_of ty.now))) dropped.now) }
 {
+    if dropped.len() == 0 {
+        return Ok(true);
+    }
     let under = under_binders(alloc, count, ty)?;
     let marks = premise_marks(alloc, &under)?;
     let places = dropped.as_slice();
