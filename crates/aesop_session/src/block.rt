@@ -19,11 +19,9 @@ use command_words::Opts;
 use file_elab::Theorem;
 use goal_book::GoalBook;
 use run_io::Sink;
-use std::alloc::Global;
 
 /// Answers a theorem, and writes its block as one piece. The status is that of the block.
 pub(crate) fn answer_theorem<B: Prover, K: Sink>(
-    alloc: Global,
     prover: &B,
     book: &GoalBook<'_>,
     theorem: &Theorem,
@@ -41,7 +39,7 @@ pub(crate) fn answer_theorem<B: Prover, K: Sink>(
     ensures faults_later { K.faults sink.old ≤ K.faults sink.new }
     ensures zeros_later { K.zeros sink.old ≤ K.zeros sink.new }
 {
-    let status = match put_block(alloc, prover, book, theorem, opts, text) {
+    let status = match put_block(prover, book, theorem, opts, text) {
         Ok(status) => status,
         Err(_) => return Err(WriteFault::NoMemory),
     };
@@ -53,7 +51,6 @@ pub(crate) fn answer_theorem<B: Prover, K: Sink>(
 
 /// Answers a theorem, and puts the text of its block in the place of what `text` has. The status is that of the block.
 fn put_block<B: Prover>(
-    alloc: Global,
     prover: &B,
     book: &GoalBook<'_>,
     theorem: &Theorem,
@@ -65,7 +62,7 @@ fn put_block<B: Prover>(
     requires formed { Formed (kinds_in book.now.sig) (typing_in book.now.sig [] []) (type_of theorem.now.ty) }
     ensures { IfOk result (λ status. IsBlockText book.now (options_of opts.now) (theorem_of theorem.now) status text.new) }
 {
-    let block = prover.prove(alloc, book, theorem, opts)?;
+    let block = prover.prove(book, theorem, opts)?;
     text.clear();
     write_block(book.sig(), book.rules(), &block, text)?;
     Ok(status_by(&block))

@@ -100,7 +100,7 @@ fn write_blocks<B: Prover, K: Sink>(
     let mut text = Bytes::new(alloc);
     let mut status = Status::AllProved;
     for theorem in theorems {
-        match answer_theorem(alloc, prover, book, theorem, opts, &mut text, sink) {
+        match answer_theorem(prover, book, theorem, opts, &mut text, sink) {
             Ok(more) => status = joined(status, more),
             Err(stop) => return Err(stop),
         }

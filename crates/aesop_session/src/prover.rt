@@ -25,13 +25,7 @@ pub(crate) trait Prover {
     ghost serves: { Self → LfOptions → Type 0 };
 
     /// The block of a theorem with a well-formed type, by a book. The budget is at least 1. It is refused when out of memory.
-    fn prove(
-        &self,
-        alloc: Global,
-        book: &GoalBook<'_>,
-        theorem: &Theorem,
-        opts: &Opts,
-    ) -> Result<Block, NoMemory>
+    fn prove(&self, book: &GoalBook<'_>, theorem: &Theorem, opts: &Opts) -> Result<Block, NoMemory>
         requires budget { 0 < opts.now.budget }
         requires serves { serves self.now (options_of opts.now) }
         requires formed { Formed (kinds_in book.now.sig) (typing_in book.now.sig [] []) (type_of theorem.now.ty) }
@@ -39,9 +33,11 @@ pub(crate) trait Prover {
         ensures writable { IfOk result (λ block. IsWritable book.now.sig book.now.book (seen_block block)) };
 }
 
-/// The caller searches alone.
+/// The caller searches alone, with memory from here.
 #[derive(Clone, Copy)]
-pub(crate) struct Still;
+pub(crate) struct Still {
+    pub(crate) alloc: Global,
+}
 
 impl Prover for Still {
     ghost use Rattle.std.specs.Prelude.{◌≡◌};
@@ -50,12 +46,11 @@ impl Prover for Still {
 
     fn prove(
         &self,
-        alloc: Global,
         book: &GoalBook<'_>,
         theorem: &Theorem,
         opts: &Opts,
     ) -> Result<Block, NoMemory> {
-        let block = prove_theorem_still(alloc, book, theorem, opts)?;
+        let block = prove_theorem_still(self.alloc, book, theorem, opts)?;
         Ok(block)
     }
 }
@@ -87,7 +82,6 @@ impl<F: Fn(&GoalBook<'_>, &Theorem, &Opts) -> Result<Block, NoMemory>> Prover fo
 
     fn prove(
         &self,
-        _alloc: Global,
         book: &GoalBook<'_>,
         theorem: &Theorem,
         opts: &Opts,

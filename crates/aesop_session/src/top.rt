@@ -81,7 +81,7 @@ pub fn run<R: Threads + Wait + Sync, S: Source, K: Sink, G: Gate + Sync>(
         Err(_) => return Status::NoMemory,
     };
     if opts.workers == 0 {
-        return prove(alloc, &Still, &opts, source, sink);
+        return prove(alloc, &Still { alloc }, &opts, source, sink);
     }
     let search = |book: &GoalBook<'_>, theorem: &Theorem, opts: &Opts| -> Result<Block, NoMemory>
         requires budget { 0 < opts.now.budget }
@@ -132,7 +132,7 @@ pub fn run_still<S: Source, K: Sink>(
     if opts.workers != 0 {
         return say_usage(sink);
     }
-    prove(alloc, &Still, &opts, source, sink)
+    prove(alloc, &Still { alloc }, &opts, source, sink)
 }
 
 /// Writes the usage line.
