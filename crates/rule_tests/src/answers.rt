@@ -1,52 +1,69 @@
 //! What is answered for a row.
 
+ghost use Rattle.lf_definitions.specs.GoalLists.{all_goals};
+ghost use Rattle.lf_definitions.specs.ShapedGoals.{ShapedGoals};
+ghost use Rattle.meta_goals.specs.GoalsOf.{goals_of};
 ghost use Rattle.rule_sets.specs.Refusals.{IsOver};
 ghost use Rattle.file_elab.specs.Theorems.{AreFormed};
 
 use crate::builders::offered;
 use crate::lookups::append_found;
-use crate::openings::opened_list;
-use crate::programs::program_of;
-use crate::sources::Source;
+use crate::sources::source;
 use crate::writing::append_applications;
 use basics::{Bytes, Name, NoMemory};
 use file_elab::Program;
+use meta_goals::Goals;
 use std::alloc::Global;
+use test_goals::{opened_theorem, program_of, theorem_type};
 use test_rows::Answers;
 
-/// What is asked of a row, over a program.
+/// What is asked of a row: of a program by its name, and then of a theorem.
 #[derive(Clone, Copy)]
 pub(crate) enum Asked {
-    /// The applications of a rule to the opening of a theorem's type: the theorem's name and the rule's.
-    Applications(Source),
-    /// The rules that the index finds for the end of a theorem's type: the theorem's name.
-    Found(Source),
+    /// The applications of a rule to the opening of the theorem's type: the theorem's name and the rule's.
+    Applications,
+    /// The rules that the index finds for the end of the theorem's type: the theorem's name.
+    Found,
 }
 
 impl Answers for Asked {
     fn answer(&self, alloc: Global, given: &str) -> Result<Bytes, NoMemory> {
         let mut text = Bytes::new(alloc);
-        match self {
-            Asked::Applications(source) => append_offered(alloc, *source, given, &mut text)?,
-            Asked::Found(source) => append_looked_up(alloc, *source, given, &mut text)?,
-        }
+        append_answer(alloc, *self, given, &mut text)?;
         Ok(text)
     }
 }
 
-fn append_offered(
+fn append_answer(
     alloc: Global,
-    source: Source,
+    asked: Asked,
     given: &str,
     text: &mut Bytes,
 ) -> Result<(), NoMemory> {
-    match program_of(alloc, source.text().as_bytes()) {
+    let (name, rest) = given.split_once(' ').unwrap_or((given, ""));
+    match program_of(alloc, source(name).as_bytes()) {
         None => text.append(b"no program"),
-        Some(program) => append_offered_in(alloc, &program, given, text),
+        Some(program) => append_by_program(alloc, asked, &program, rest, text),
     }
 }
 
-fn append_offered_in(
+fn append_by_program(
+    alloc: Global,
+    asked: Asked,
+    program: &Program,
+    given: &str,
+    text: &mut Bytes,
+) -> Result<(), NoMemory>
+    requires theorems { AreFormed program.now.sig program.now.theorems }
+    requires rules { IsOver program.now.sig program.now.rules }
+{
+    match asked {
+        Asked::Applications => append_offered(alloc, program, given, text),
+        Asked::Found => append_looked_up(alloc, program, given, text),
+    }
+}
+
+fn append_offered(
     alloc: Global,
     program: &Program,
     given: &str,
@@ -57,57 +74,56 @@ fn append_offered_in(
 {
     let (theorem, rule) = given.split_once(' ').unwrap_or((given, ""));
     let name = Name::from_slice(alloc, rule.as_bytes())?;
-    let Some(rule) = program.rules.find(&name) else {
-        return text.append(b"no rule");
-    };
-    let Some(place) = program.theorems.find(theorem.as_bytes()) else {
-        return text.append(b"no theorem");
-    };
-    append_offered_for(alloc, program, place as usize, rule, text)
+    match program.rules.find(&name) {
+        None => text.append(b"no rule"),
+        Some(rule) => append_offered_at(alloc, program, theorem, rule, text),
+    }
 }
 
-fn append_offered_for(
+fn append_offered_at(
     alloc: Global,
     program: &Program,
-    place: usize,
+    theorem: &str,
     rule: u32,
     text: &mut Bytes,
 ) -> Result<(), NoMemory>
     requires theorems { AreFormed program.now.sig program.now.theorems }
     requires rules { IsOver program.now.sig program.now.rules }
 {
-    let theorems = program.theorems.as_slice();
-    if place >= theorems.len() || rule >= program.rules.count() {
+    let found = opened_theorem(alloc, program, theorem)?;
+    match found {
+        None => text.append(b"no theorem"),
+        Some(goals) => append_offered_for(alloc, program, &goals, rule, text),
+    }
+}
+
+fn append_offered_for(
+    alloc: Global,
+    program: &Program,
+    goals: &Goals,
+    rule: u32,
+    text: &mut Bytes,
+) -> Result<(), NoMemory>
+    requires rules { IsOver program.now.sig program.now.rules }
+    requires goals { ShapedGoals program.now.sig (all_goals (goals_of goals.now)) }
+{
+    if rule >= program.rules.count() {
         return text.append(b"past all");
     }
-    let goals = opened_list(alloc, &theorems[place].ty)?;
-    let found = offered(alloc, &program.sig, &program.rules, rule, &goals)?;
+    let found = offered(alloc, &program.sig, &program.rules, rule, goals)?;
     append_applications(alloc, &program.sig, &program.rules, text, found.as_slice())
 }
 
 fn append_looked_up(
     alloc: Global,
-    source: Source,
-    given: &str,
-    text: &mut Bytes,
-) -> Result<(), NoMemory> {
-    match program_of(alloc, source.text().as_bytes()) {
-        None => text.append(b"no program"),
-        Some(program) => append_looked_up_in(alloc, &program, given, text),
-    }
-}
-
-fn append_looked_up_in(
-    alloc: Global,
     program: &Program,
     given: &str,
     text: &mut Bytes,
-) -> Result<(), NoMemory> {
-    let Some(place) = program.theorems.find(given.as_bytes()) else {
-        return text.append(b"no theorem");
-    };
-    match program.theorems.as_slice().get(place as usize) {
-        None => text.append(b"past all"),
-        Some(theorem) => append_found(alloc, &program.sig, &program.rules, &theorem.ty, text),
+) -> Result<(), NoMemory>
+    requires { AreFormed program.now.sig program.now.theorems }
+{
+    match theorem_type(program, given) {
+        None => text.append(b"no theorem"),
+        Some(ty) => append_found(alloc, &program.sig, &program.rules, ty, text),
     }
 }

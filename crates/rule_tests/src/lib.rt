@@ -9,10 +9,6 @@ mod builders;
 #[cfg(test)]
 mod lookups;
 #[cfg(test)]
-mod openings;
-#[cfg(test)]
-mod programs;
-#[cfg(test)]
 mod sources;
 #[cfg(test)]
 mod tables;

@@ -1,10 +1,11 @@
 //! Look-ups in an index, as text.
 
-use basics::{Bytes, Name, NoMemory};
+use basics::{Bytes, NoMemory};
 use lf_terms::{Atom, Signature, Ty};
 use rule_index::Index;
-use rule_sets::{Ordered, RuleBook, Sets};
+use rule_sets::{Ordered, RuleBook};
 use std::alloc::Global;
+use test_goals::{append_rule, default_sets};
 
 /// The names of the rules that the index of a book finds for the end of a type, in the order in which they are tried.
 pub(crate) fn append_found(
@@ -27,8 +28,7 @@ pub(crate) fn append_found(
 
 // The rules of the set of rules that name none, and the built-in ones.
 fn default_order(alloc: Global, rules: &RuleBook) -> Result<Ordered, NoMemory> {
-    let mut sets = Sets::new(alloc);
-    sets.push(Name::from_slice(alloc, b"default")?)?;
+    let sets = default_sets(alloc)?;
     rules.active(alloc, &sets)
 }
 
@@ -40,13 +40,4 @@ fn append_names(rules: &RuleBook, numbers: &[u32], text: &mut Bytes) -> Result<(
         append_rule(rules, numbers[i], text)?;
     }
     Ok(())
-}
-
-/// Adds the name of a rule, or a question mark where there is none of the number.
-pub(crate) fn append_rule(rules: &RuleBook, number: u32, text: &mut Bytes) -> Result<(), NoMemory> {
-    if number < rules.count() {
-        text.append(rules.rule(number).name.as_bytes())
-    } else {
-        text.push(b'?')
-    }
 }

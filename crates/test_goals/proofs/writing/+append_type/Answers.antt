@@ -2,7 +2,7 @@ use Rattle.std.proofs.Common.{ap, arith}
 use Rattle.lf_definitions.specs.Syntax.{types_size}
 use Rattle.lf_terms.specs.TypeSizes.{binders_size}
 use Rattle.lf_terms.proofs.TypeLists.{item_size}
-use Rattle.rule_tests.proofs.writing.+append_type.Goals as goal
+use Rattle.test_goals.proofs.writing.+append_type.Goals as goal
 
 pub append_type-append_binders-requires : goal.append_type-append_binders-requires
 append_type-append_binders-requires t c =

@@ -1,5 +1,5 @@
 -- The opening list of a well-formed type is shaped.
-use Rattle.std.proofs.Common.{◌≡◌, ℕ, List, [], ◌∷◌, ◌++◌, refl, sym, ap₂, ◌∙◌, subst, arith}
+use Rattle.std.proofs.Common.{◌≡◌, ℕ, List, [], ◌∷◌, refl, sym, ap₂, ◌∙◌, subst, arith}
 use Rattle.std.proofs.lemmas.List.Elements.{All-nil, All-cons}
 use Rattle.lf_definitions.specs.Syntax.{Spine, LfType, family, pis, Context, binders_of, conclusion_atom}
 use Rattle.lf_definitions.specs.Typing.{LfGoal, goal_type, Formed}
@@ -15,21 +15,15 @@ conclusion_of-pis [] f args = refl
 conclusion_of-pis (b ∷ bs) f args = conclusion_of-pis bs f args
 
 -- the goal that opens a type, from its binders and its end
-abbrev pub opening_goal : ℕ → Context → Spine → LfGoal
+abbrev opening_goal : ℕ → Context → Spine → LfGoal
 opening_goal f bs args = record { id = 0; context = bs; target = record { atom_family = f; atom_args = args } }
 
-abbrev pub listed : List LfGoal → List LfGoal → LfGoals
+abbrev listed : List LfGoal → List LfGoal → LfGoals
 listed proofs witnesses = record { proofs = proofs; witnesses = witnesses }
 
 opening_is : (bs : Context) (f : ℕ) (args : Spine) → listed (opening_goal f bs args ∷ []) [] ≡ opening (pis bs (family f args))
 opening_is bs f args =
     ap₂ (λ ctx end. listed (record { id = 0; context = ctx; target = end } ∷ []) []) (sym (binders_of-pis bs f args)) (sym (conclusion_of-pis bs f args))
-
--- The list that the code makes of copies is the opening list.
-pub copies_open : (bs ctx : Context) (f : ℕ) (args copied : Spine) (none proofs witnesses : List LfGoal) → ctx ≡ bs → copied ≡ args → none ≡ [] →
-    proofs ≡ none ++ opening_goal f ctx copied ∷ [] → witnesses ≡ [] → listed proofs witnesses ≡ opening (pis bs (family f args))
-copies_open bs ctx f args copied none proofs witnesses ctx_is args_are none_is are no_witness =
-    ap₂ listed (are ∙ ap₂ (λ old g. old ++ g ∷ []) none_is (ap₂ (opening_goal f) ctx_is args_are)) no_witness ∙ opening_is bs f args
 
 one_is_distinct : (g : LfGoal) → AreDistinct (g ∷ [])
 one_is_distinct g i j d less within = absurd (omega (arith, less, within))

@@ -1,6 +1,6 @@
 use Rattle.lf_definitions.specs.Syntax.{term_size, spine_size}
 use Rattle.lf_terms.specs.Terms.{term_of}
-use Rattle.rule_tests.proofs.writing.+append_term.Given as goal
+use Rattle.test_goals.proofs.writing.+append_term.Given as goal
 
 abbrev pub decreases-append_term : goal.decreases-append_term
 decreases-append_term l = term_size (term_of l.term.now)
