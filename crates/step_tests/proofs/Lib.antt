@@ -1,0 +1,3 @@
+mod PutHeads
+mod ReachedLists
+mod Theorems
