@@ -7,7 +7,7 @@ use Rattle.run_io.specs.Moves.{TakesAtMost}
 use Rattle.file_elab.specs.Theorems.{LfTheorem}
 use Rattle.file_elab.specs.Programs.{LfProgram}
 use Rattle.goal_book.specs.GoalBooks.{LfBook}
-use Rattle.right_answers.specs.Blocks.{LfBlock}
+use Rattle.answer_definitions.specs.Blocks.{LfBlock}
 use Rattle.aesop_session.specs.declared.status.Status.{Status}
 use Rattle.aesop_session.specs.declared.status.Status.TheVariants.{AllProved, SomeStuck, SomeSpent, FileRefused, Usage, TooLong, ReadFault, WriteFault, NoMemory, AnswersRefused}
 use Rattle.aesop_session.specs.declared.refusal.Refusal.{Refusal}

@@ -14,7 +14,7 @@ use Rattle.file_elab.specs.declared.theorem.Theorem.{Theorem}
 use Rattle.file_elab.specs.ProgramViews.{theorem_of}
 use Rattle.file_elab.specs.Theorems.{LfTheorem, AreFormed}
 use Rattle.goal_book.specs.GoalBooks.{LfBook}
-use Rattle.right_answers.specs.Blocks.{LfBlock}
+use Rattle.answer_definitions.specs.Blocks.{LfBlock}
 use Rattle.answer_text.specs.Texts.{block_text}
 use Rattle.aesop_session.specs.declared.status.Status.{Status}
 use Rattle.aesop_session.specs.declared.status.Status.TheVariants.{AllProved}

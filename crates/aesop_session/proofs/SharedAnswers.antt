@@ -10,8 +10,8 @@ use Rattle.tree_runs.specs.States.{TreeEvent, claim, commit, TreeState, start, a
 use Rattle.tree_runs.specs.Runs.{Still, settled, step}
 use Rattle.tree_runs.proofs.StillRuns.{still_is_run}
 use Rattle.tree_shared.specs.Seats.{seat_of, AreSeatsBelow}
-use Rattle.right_answers.specs.Blocks.{LfBlock}
-use Rattle.right_answers.specs.Settled.{IsStillAnswer}
+use Rattle.answer_definitions.specs.Blocks.{LfBlock}
+use Rattle.answer_definitions.specs.Settled.{IsStillAnswer}
 use Rattle.theorem_search.specs.Answers.{IsAnswerOf}
 
 module _ {S : Type 0} (branches : S → List (ℕ × List S)) (budget workers : ℕ) (some : 0 < workers) where

@@ -8,9 +8,9 @@ use Rattle.lf_definitions.specs.Signatures.{kinds_in, typing_in}
 use Rattle.file_elab.specs.Theorems.{LfTheorem}
 use Rattle.file_elab.specs.Programs.{LfProgram}
 use Rattle.goal_book.specs.GoalBooks.{LfBook, rules_in, IsBookOf}
-use Rattle.right_answers.specs.Blocks.{LfVerdict, proved, stuck, spent, LfBlock}
-use Rattle.right_answers.specs.Right.{IsRight}
-use Rattle.right_answers.specs.Laws.{SaysOfDerivations}
+use Rattle.answer_definitions.specs.Blocks.{LfVerdict, proved, stuck, spent, LfBlock}
+use Rattle.answer_definitions.specs.Right.{IsRight}
+use Rattle.answer_definitions.specs.Theorems.{SaysOfDerivations}
 use Rattle.answer_text.specs.Texts.{line, block_text}
 use Rattle.command_words.specs.Commands.{LfOptions}
 use Rattle.theorem_search.specs.Answers.{IsAnswerOf}

@@ -4,7 +4,7 @@ ghost use Rattle.std.specs.Prelude.{◌≡◌, ◌≤◌, ◌<◌, ◌⊎◌, �
 ghost use Rattle.run_io.specs.Causes.{Rose};
 ghost use Rattle.file_elab.specs.ProgramViews.{theorem_of};
 ghost use Rattle.file_elab.specs.Theorems.{AreFormed};
-ghost use Rattle.right_answers.specs.Blocks.{LfBlock};
+ghost use Rattle.answer_definitions.specs.Blocks.{LfBlock};
 ghost use Rattle.command_words.specs.Given.{options_of};
 ghost use Rattle.aesop_session.specs.Documents.{first_line, status_of, HasAnswers, WritesBlocks, WritesBlocksPrefix, WritesDocument, WritesDocumentPrefix};
 

@@ -2,7 +2,7 @@
 use Rattle.std.specs.Prelude.{map, option_map}
 use Rattle.lf_terms.specs.Terms.{term_of}
 use Rattle.proof_replay.specs.Seen.{seen_step}
-use Rattle.right_answers.specs.Blocks.{LfVerdict, proved, stuck, spent, LfBlock}
+use Rattle.answer_definitions.specs.Blocks.{LfVerdict, proved, stuck, spent, LfBlock}
 use Rattle.answer_text.specs.declared.block.Verdict.{Verdict}
 use Rattle.answer_text.specs.declared.block.Verdict.TheVariants.{Proved, Stuck, Spent}
 use Rattle.answer_text.specs.declared.block.Block.{Block}

@@ -6,7 +6,7 @@ use Rattle.alternatives.specs.Alternatives.{LfLast, done, safely, unsafely, late
 use Rattle.derivations.specs.Replays.{LfStep}
 use Rattle.file_print.specs.Printable.{IsPrintable}
 use Rattle.rule_sets.specs.Books.{Book}
-use Rattle.right_answers.specs.Blocks.{LfVerdict, proved, stuck, spent, LfBlock}
+use Rattle.answer_definitions.specs.Blocks.{LfVerdict, proved, stuck, spent, LfBlock}
 
 -- The label is of a rule of the book.
 abbrev pub NamesRule : Book → LfLabel → Type 0

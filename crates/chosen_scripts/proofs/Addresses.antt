@@ -4,7 +4,7 @@ use Rattle.std.specs.Prelude.{◌&&◌, nat_eq}
 use Rattle.std.proofs.Math.ListN.{length-append}
 use Rattle.std.proofs.lemmas.Bool.Decides.{Decides-eqb, Decides-like, Decides-and}
 use Rattle.tree_runs.specs.Addresses.{Address}
-use Rattle.chosen_scripts.specs.Chosen.{same_address}
+use Rattle.answer_definitions.specs.Chosen.{same_address}
 
 abbrev step_by : ℕ → ℕ → ℕ × ℕ
 step_by alternative place = (alternative, place)

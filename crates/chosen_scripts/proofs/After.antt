@@ -32,7 +32,7 @@ use Rattle.shuffled_derivations.specs.Laws.{MayBeDerived}
 use Rattle.shuffled_derivations.proofs.Lists.{mapped_at}
 use Rattle.shuffled_derivations.proofs.Insides.{goals_inside-outside}
 use Rattle.shuffled_derivations.proofs.Alike.{part_may_be_derived}
-use Rattle.chosen_scripts.specs.Chosen.{same_address, is_moved, class_place, carried_after, are_proved}
+use Rattle.answer_definitions.specs.Chosen.{same_address, is_moved, class_place, carried_after, are_proved}
 use Rattle.chosen_scripts.proofs.Addresses.{same_address_decides, own_address, other_address, alike, one_step_only}
 use Rattle.chosen_scripts.proofs.Choices.{each_is_proved}
 use Rattle.chosen_scripts.proofs.Spent.{IsCarriedOn}

@@ -27,7 +27,7 @@ use Rattle.tree_runs.specs.Addresses.{Address}
 use Rattle.shuffled_derivations.specs.Laws.{MayBeDerived}
 use Rattle.shuffled_derivations.proofs.Lists.{mapped_at, at_mapped, All-at}
 use Rattle.shuffled_derivations.proofs.Alike.{may_be_expanded}
-use Rattle.chosen_scripts.specs.Chosen.{same_address}
+use Rattle.answer_definitions.specs.Chosen.{same_address}
 use Rattle.chosen_scripts.proofs.Addresses.{own_address}
 
 -- The numbers that carry an address.

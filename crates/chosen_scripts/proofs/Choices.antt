@@ -9,7 +9,7 @@ use Rattle.lf_definitions.proofs.Options.{Some-Some}
 use Rattle.alternatives.specs.Rules.{LfRule}
 use Rattle.derivations.specs.Unfolding.{branches_of, goals_at}
 use Rattle.tree_runs.specs.Addresses.{Address, at, Proved, by_alternative}
-use Rattle.chosen_scripts.specs.Chosen.{are_proved, least_proved, least_at, chosen_at}
+use Rattle.answer_definitions.specs.Chosen.{are_proved, least_proved, least_at, chosen_at}
 use Rattle.chosen_scripts.specs.Laws.{SaysWhatIsProved}
 
 both : (b c : Bool) → b && c ≡ true → (b ≡ true) × (c ≡ true)

@@ -14,7 +14,7 @@ use Rattle.clusters.proofs.Elements.{contains_cases, contains_none, all_elements
 use Rattle.clusters.proofs.Classes.{AreApart}
 use Rattle.framed_alternatives.proofs.Insides.{goals_of}
 use Rattle.shuffled_derivations.proofs.Lists.{All-at}
-use Rattle.chosen_scripts.specs.Chosen.{class_place}
+use Rattle.answer_definitions.specs.Chosen.{class_place}
 
 pub number_contained : (class : List LfGoal) (m : ℕ) → is_one_of class m ≡ true → Contains (ids class) m
 number_contained class m is = let r = any_found (nat_eq m) (ids class) is in subst (Contains (ids class)) (sym (eqb-true m r.0 r.2)) r.1

@@ -25,7 +25,7 @@ use Rattle.tree_runs.specs.Addresses.{Address}
 use Rattle.mark_laws.proofs.Entries.{contains_cases, nothing_contained}
 use Rattle.tree_derivations.specs.Laws.{IsTheorem}
 use Rattle.tree_derivations.proofs.Laws.{opening_is_node}
-use Rattle.chosen_scripts.specs.Chosen.{chosen_at, carried_after, step_of, step_then, choose_then, first_then, chosen_from, chosen_script}
+use Rattle.answer_definitions.specs.Chosen.{chosen_at, carried_after, step_of, step_then, choose_then, first_then, chosen_from, chosen_script}
 use Rattle.chosen_scripts.specs.Laws.{SaysWhatIsProved, ChosenScriptsReplay}
 use Rattle.chosen_scripts.proofs.Choices.{alternative_is_chosen, chosen_is_least, proved_is_committed, are_proved_from}
 use Rattle.chosen_scripts.proofs.Spent.{IsSpent, some_are_left, no_goal_is_child, spent_after}

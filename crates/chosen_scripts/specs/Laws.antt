@@ -8,7 +8,7 @@ use Rattle.derivations.specs.Replays.{closed, replay}
 use Rattle.derivations.specs.Unfolding.{branches_of}
 use Rattle.tree_runs.specs.Addresses.{Address, Proved}
 use Rattle.tree_derivations.specs.Laws.{IsTheorem}
-use Rattle.chosen_scripts.specs.Chosen.{chosen_script}
+use Rattle.answer_definitions.specs.Chosen.{chosen_script}
 
 -- A test says of each address whether it is proved.
 abbrev pub SaysWhatIsProved : LfSignature → List LfRule → LfType → List Address → (Address → Bool) → Type 0

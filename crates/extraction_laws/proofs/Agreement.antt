@@ -21,7 +21,7 @@ use Rattle.derivations.specs.Derivations.{alternatives_of}
 use Rattle.derivations.specs.Replays.{LfStep}
 use Rattle.derivations.specs.Unfolding.{goals_at}
 use Rattle.tree_runs.specs.Addresses.{Address}
-use Rattle.chosen_scripts.specs.Chosen.{chosen_at, same_address, is_moved, class_place, carried_after, step_then, choose_then, first_then, chosen_from}
+use Rattle.answer_definitions.specs.Chosen.{chosen_at, same_address, is_moved, class_place, carried_after, step_then, choose_then, first_then, chosen_from}
 use Rattle.chosen_scripts.proofs.Spent.{IsSpent}
 use Rattle.chosen_scripts.proofs.Places.{number_contained, first_contained}
 use Rattle.chosen_scripts.proofs.Carried.{carries, Stands, IsCarried}

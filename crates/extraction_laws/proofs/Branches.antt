@@ -15,9 +15,9 @@ use Rattle.tree_runs.specs.Shapes.{TreeShape, nodes_count, alternatives_at}
 use Rattle.tree_runs.specs.States.{TreeEvent, TreeNode, counts_of}
 use Rattle.tree_runs.proofs.AddressMarks.{runs_show_branches}
 use Rattle.tree_marks.specs.TreeMarks.{entry_proved, is_alternative_proved}
-use Rattle.chosen_scripts.specs.Chosen.{are_proved, least_proved, least_at, chosen_at}
-use Rattle.right_answers.specs.Right.{state_after}
-use Rattle.right_answers.specs.Settled.{is_proved_at}
+use Rattle.answer_definitions.specs.Chosen.{are_proved, least_proved, least_at, chosen_at}
+use Rattle.answer_definitions.specs.Right.{state_after}
+use Rattle.answer_definitions.specs.Settled.{is_proved_at}
 use Rattle.extraction_laws.specs.Following.{IsLeast, shape_after}
 use Rattle.extraction_laws.proofs.Nodes.{is_sound, child_stands_at, proved_alike}
 

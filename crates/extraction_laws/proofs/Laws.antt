@@ -21,13 +21,13 @@ use Rattle.tree_runs.specs.Shapes.{TreeShape, nodes_count}
 use Rattle.tree_runs.specs.States.{TreeEvent}
 use Rattle.tree_runs.proofs.Addresses.{address_of-root}
 use Rattle.tree_derivations.specs.Laws.{IsTheorem}
-use Rattle.chosen_scripts.specs.Chosen.{chosen_from, chosen_script}
+use Rattle.answer_definitions.specs.Chosen.{chosen_from, chosen_script}
 use Rattle.chosen_scripts.proofs.Spent.{IsSpent}
 use Rattle.chosen_scripts.proofs.Carried.{IsCarried}
 use Rattle.chosen_scripts.proofs.Scripts.{none_chosen, opening_spent, opening_carried}
-use Rattle.right_answers.specs.Laws.{IsFormedTheorem}
-use Rattle.right_answers.specs.Right.{state_after}
-use Rattle.right_answers.specs.Settled.{is_proved_at}
+use Rattle.answer_definitions.specs.Theorems.{IsFormedTheorem}
+use Rattle.answer_definitions.specs.Right.{state_after}
+use Rattle.answer_definitions.specs.Settled.{is_proved_at}
 use Rattle.extraction_laws.specs.Following.{nodes_after, IsLeast, shape_after, IsReached, opened, stepped, agreed}
 use Rattle.extraction_laws.specs.Laws.{IsNextStep, CanBeFollowed, ChosenScriptsCanBeFollowed}
 use Rattle.extraction_laws.proofs.Nodes.{committed_in, is_sound, proved_alike}

@@ -28,12 +28,12 @@ use Rattle.tree_runs.proofs.Marks.{alternatives-past}
 use Rattle.tree_runs.proofs.Order.{address_of-apart}
 use Rattle.tree_runs.proofs.Soundness.{runs_are_sound}
 use Rattle.mark_laws.proofs.Entries.{contains_first, contains_later, is_image}
-use Rattle.chosen_scripts.specs.Chosen.{same_address}
+use Rattle.answer_definitions.specs.Chosen.{same_address}
 use Rattle.chosen_scripts.specs.Laws.{SaysWhatIsProved}
 use Rattle.chosen_scripts.proofs.Addresses.{same_address_decides, alike}
 use Rattle.chosen_scripts.proofs.Choices.{proved_is_committed}
-use Rattle.right_answers.specs.Right.{state_after}
-use Rattle.right_answers.specs.Settled.{is_proved_at}
+use Rattle.answer_definitions.specs.Right.{state_after}
+use Rattle.answer_definitions.specs.Settled.{is_proved_at}
 use Rattle.extraction_laws.specs.Following.{shape_after}
 
 counted : (first count m : ℕ) → first ≤ m → m < first + count → Contains (counting_from first count) m

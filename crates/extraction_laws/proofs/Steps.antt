@@ -25,14 +25,14 @@ use Rattle.tree_runs.specs.Marks.{entry_at, is_proved}
 use Rattle.tree_runs.specs.Runs.{is_run}
 use Rattle.tree_runs.specs.Shapes.{TreeShape, nodes_count, alternatives_at}
 use Rattle.tree_runs.specs.States.{TreeEvent}
-use Rattle.chosen_scripts.specs.Chosen.{same_address, is_moved, class_place, carried_after, step_of}
+use Rattle.answer_definitions.specs.Chosen.{same_address, is_moved, class_place, carried_after, step_of}
 use Rattle.chosen_scripts.proofs.Choices.{proved_is_committed}
 use Rattle.chosen_scripts.proofs.Spent.{IsSpent, some_are_left, no_goal_is_child, spent_after}
 use Rattle.chosen_scripts.proofs.Places.{number_contained, first_contained, class_is_placed}
 use Rattle.chosen_scripts.proofs.Carried.{carries, Stands, IsCarried, IsEntry, entry_of}
 use Rattle.chosen_scripts.proofs.After.{same_classes, goes_on, carried_on}
 use Rattle.chosen_scripts.proofs.Scripts.{one_step}
-use Rattle.right_answers.specs.Settled.{is_proved_at}
+use Rattle.answer_definitions.specs.Settled.{is_proved_at}
 use Rattle.extraction_laws.specs.Following.{is_moved_from, moved_classes, nodes_after, Agree, IsLeast, shape_after, script_from}
 use Rattle.extraction_laws.proofs.Nodes.{committed_in, same_test, child_stands_at, proved_alike, says_what_is_proved}
 use Rattle.extraction_laws.proofs.Branches.{IsProvedEntry, proved_entry, least_is_chosen}

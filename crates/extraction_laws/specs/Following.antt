@@ -10,14 +10,14 @@ use Rattle.alternatives.specs.Alternatives.{LfAlternative}
 use Rattle.clusters.specs.Clusters.{classes, is_one_of}
 use Rattle.derivations.specs.Derivations.{alternatives_of}
 use Rattle.derivations.specs.Replays.{LfStep}
-use Rattle.chosen_scripts.specs.Chosen.{class_place, chosen_from}
+use Rattle.answer_definitions.specs.Chosen.{class_place, chosen_from}
 use Rattle.tree_runs.specs.Addresses.{address_of}
 use Rattle.tree_runs.specs.Marks.{entry_at}
 use Rattle.tree_runs.specs.Shapes.{TreeShape, alternatives_at}
 use Rattle.tree_runs.specs.States.{TreeEvent}
 use Rattle.tree_marks.specs.TreeMarks.{is_alternative_proved}
-use Rattle.right_answers.specs.Right.{state_after}
-use Rattle.right_answers.specs.Settled.{is_proved_at}
+use Rattle.answer_definitions.specs.Right.{state_after}
+use Rattle.answer_definitions.specs.Settled.{is_proved_at}
 
 -- After a step a goal is moved where it is new, or carried the node of the step.
 abbrev pub is_moved_from : LfGoals → (ℕ → ℕ) → ℕ → ℕ → Bool

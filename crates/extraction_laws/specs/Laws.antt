@@ -9,14 +9,14 @@ use Rattle.alternatives.specs.Rules.{LfRule}
 use Rattle.alternatives.specs.Alternatives.{LfAlternative}
 use Rattle.derivations.specs.Derivations.{alternatives_of}
 use Rattle.derivations.specs.Unfolding.{branches_of}
-use Rattle.chosen_scripts.specs.Chosen.{step_of}
+use Rattle.answer_definitions.specs.Chosen.{step_of}
 use Rattle.tree_runs.specs.Marks.{entry_at, is_proved}
 use Rattle.tree_runs.specs.Runs.{is_run}
 use Rattle.tree_runs.specs.Shapes.{nodes_count, alternatives_at}
 use Rattle.tree_runs.specs.States.{TreeEvent}
-use Rattle.right_answers.specs.Laws.{IsFormedTheorem}
-use Rattle.right_answers.specs.Right.{state_after}
-use Rattle.right_answers.specs.Settled.{script_by}
+use Rattle.answer_definitions.specs.Theorems.{IsFormedTheorem}
+use Rattle.answer_definitions.specs.Right.{state_after}
+use Rattle.answer_definitions.specs.Settled.{script_by}
 use Rattle.extraction_laws.specs.Following.{moved_classes, nodes_after, Agree, IsLeast, shape_after, script_from, IsReached}
 
 module _ (sig : LfSignature) (rules : List LfRule) (a : LfType) (events : List TreeEvent) where

@@ -10,7 +10,7 @@ use Rattle.lf_definitions.specs.GoalLists.{ids}
 use Rattle.clusters.specs.Clusters.{is_one_of}
 use Rattle.clusters.proofs.Elements.{contains_cases, contains_none, any_found}
 use Rattle.clusters.proofs.Classes.{AreApart}
-use Rattle.chosen_scripts.specs.Chosen.{class_place}
+use Rattle.answer_definitions.specs.Chosen.{class_place}
 use Rattle.proof_extract.specs.Tables.{has_first, given}
 
 number_contained : (class : List LfGoal) (m : ℕ) → is_one_of class m ≡ true → Contains (ids class) m

@@ -13,7 +13,7 @@ use Rattle.goal_lists.specs.Numbering.{numbered_pairs}
 use Rattle.clusters.specs.Clusters.{classes, is_one_of}
 use Rattle.clusters.proofs.Classes.{is_in_classes, is_in_goals, classes_apart, member_has_number, goal_of_number}
 use Rattle.clusters.proofs.Laws.{inside_parts}
-use Rattle.chosen_scripts.specs.Chosen.{class_place}
+use Rattle.answer_definitions.specs.Chosen.{class_place}
 use Rattle.extraction_laws.specs.Following.{is_moved_from, nodes_after}
 use Rattle.proof_extract.specs.Tables.{IsTable, moves, kept, has_first, given}
 use Rattle.proof_extract.proofs.Insides.{distinct_moved, goal_inside, numbers_of_class, firsts_of_pairs}

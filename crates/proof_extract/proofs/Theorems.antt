@@ -19,9 +19,10 @@ use Rattle.tree_steps.specs.Trees.{IsTree, state_of_tree}
 use Rattle.meta_goals.specs.declared.goals.Goals.{Goals}
 use Rattle.meta_goals.specs.GoalsOf.{goals_of}
 use Rattle.goal_book.specs.GoalBooks.{LfBook, rules_in, IsGoalBook}
-use Rattle.right_answers.specs.Laws.{IsFormedTheorem, ChosenScriptsOfRunsReplay}
-use Rattle.right_answers.specs.Right.{state_after}
-use Rattle.right_answers.specs.Settled.{script_by}
+use Rattle.right_answers.specs.Laws.{ChosenScriptsOfRunsReplay}
+use Rattle.answer_definitions.specs.Theorems.{IsFormedTheorem}
+use Rattle.answer_definitions.specs.Right.{state_after}
+use Rattle.answer_definitions.specs.Settled.{script_by}
 use Rattle.extraction_laws.specs.Following.{shape_after}
 use Rattle.extraction_laws.specs.Laws.{ChosenScriptsCanBeFollowed}
 use Rattle.rule_problem.specs.Problems.{branches_in, IsNode}

@@ -15,13 +15,13 @@ use Rattle.alternatives.specs.Alternatives.{LfAlternative}
 use Rattle.clusters.proofs.Classes.{member_has_number}
 use Rattle.derivations.specs.Derivations.{alternatives_of}
 use Rattle.derivations.specs.Replays.{LfStep}
-use Rattle.chosen_scripts.specs.Chosen.{step_of}
+use Rattle.answer_definitions.specs.Chosen.{step_of}
 use Rattle.tree_runs.specs.Marks.{entry_at, is_proved}
 use Rattle.tree_runs.specs.Shapes.{TreeShape, nodes_count, alternatives_at}
 use Rattle.tree_shape.specs.Room.{HasAlternative}
 use Rattle.tree_steps.specs.declared.tree.Tree.{Tree}
-use Rattle.right_answers.specs.Right.{state_after}
-use Rattle.right_answers.specs.Settled.{script_by}
+use Rattle.answer_definitions.specs.Right.{state_after}
+use Rattle.answer_definitions.specs.Settled.{script_by}
 use Rattle.extraction_laws.specs.Following.{nodes_after, IsLeast, shape_after, script_from, IsReached}
 use Rattle.extraction_laws.specs.Laws.{IsNextStep}
 use Rattle.proof_extract.specs.Tables.{IsTable}

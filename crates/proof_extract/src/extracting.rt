@@ -12,7 +12,7 @@ ghost use Rattle.lf_terms.specs.Terms.{term_of};
 ghost use Rattle.lf_terms.specs.Types.{type_of};
 ghost use Rattle.meta_goals.specs.GoalsOf.{goals_of};
 ghost use Rattle.proof_replay.specs.Seen.{seen_step};
-ghost use Rattle.right_answers.specs.Settled.{script_by};
+ghost use Rattle.answer_definitions.specs.Settled.{script_by};
 ghost use Rattle.rule_problem.specs.Problems.{branches_in, IsNode};
 ghost use Rattle.tree_runs.specs.Marks.{is_proved};
 ghost use Rattle.tree_steps.specs.Trees.{IsTree};

@@ -19,10 +19,11 @@ use Rattle.tree_runs.proofs.Marks.{marks_exclude}
 use Rattle.tree_runs.proofs.StillRuns.{still_is_one, still_is_run}
 use Rattle.tree_runs.proofs.StillRunsExist.{still_run_exists}
 use Rattle.tree_derivations.proofs.Laws.{small_theorems_are_decided}
-use Rattle.right_answers.specs.Blocks.{LfVerdict, proved, stuck, spent, LfBlock}
-use Rattle.right_answers.specs.Right.{state_after, IsRightVerdict, IsSpentRun, IsRight}
-use Rattle.right_answers.specs.Settled.{script_by, events_shown, IsVerdictBy, IsAnswerBy, IsSettledRun, IsStillAnswer}
-use Rattle.right_answers.specs.Laws.{IsFormedTheorem, ChosenScriptsOfRunsReplay, SettledAnswersAreRight, StillAnswersAreUnique, SaysOfDerivations, RightAnswersDecideDerivability, SmallTheoremsAreNotSpent}
+use Rattle.answer_definitions.specs.Blocks.{LfVerdict, proved, stuck, spent, LfBlock}
+use Rattle.answer_definitions.specs.Right.{state_after, IsRightVerdict, IsSpentRun, IsRight}
+use Rattle.answer_definitions.specs.Settled.{script_by, events_shown, IsVerdictBy, IsAnswerBy, IsSettledRun, IsStillAnswer}
+use Rattle.right_answers.specs.Laws.{ChosenScriptsOfRunsReplay, SettledAnswersAreRight, StillAnswersAreUnique, RightAnswersDecideDerivability, SmallTheoremsAreNotSpent}
+use Rattle.answer_definitions.specs.Theorems.{IsFormedTheorem, SaysOfDerivations}
 use Rattle.right_answers.proofs.Committed.{commits_differ, addresses_stand, addresses_differ}
 use Rattle.right_answers.proofs.Proved.{state_is_sound, root_marks}
 use Rattle.right_answers.proofs.Settled.{script_closes, verdict_is_right}

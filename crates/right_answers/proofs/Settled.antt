@@ -21,12 +21,12 @@ use Rattle.tree_runs.specs.Soundness.{committed_addresses}
 use Rattle.tree_derivations.specs.Laws.{IsTheorem}
 use Rattle.tree_derivations.proofs.Laws.{marks_decide_derivability}
 use Rattle.typed_replays.proofs.Replays.{replayed_terms_are_typed}
-use Rattle.chosen_scripts.specs.Chosen.{chosen_script}
+use Rattle.answer_definitions.specs.Chosen.{chosen_script}
 use Rattle.chosen_scripts.proofs.Scripts.{chosen_scripts_replay}
-use Rattle.right_answers.specs.Blocks.{LfVerdict, proved, stuck, spent}
-use Rattle.right_answers.specs.Right.{state_after, IsEnded, ShowsProof, IsRightVerdict}
-use Rattle.right_answers.specs.Settled.{is_proved_at, script_by, events_shown, IsVerdictBy, IsSettledRun}
-use Rattle.right_answers.specs.Laws.{IsFormedTheorem}
+use Rattle.answer_definitions.specs.Blocks.{LfVerdict, proved, stuck, spent}
+use Rattle.answer_definitions.specs.Right.{state_after, IsEnded, ShowsProof, IsRightVerdict}
+use Rattle.answer_definitions.specs.Settled.{is_proved_at, script_by, events_shown, IsVerdictBy, IsSettledRun}
+use Rattle.answer_definitions.specs.Theorems.{IsFormedTheorem}
 use Rattle.right_answers.proofs.Committed.{commits_differ, addresses_differ}
 use Rattle.right_answers.proofs.Proved.{state_is_sound, root_marks, test_says_what_is_proved}
 

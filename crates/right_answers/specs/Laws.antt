@@ -1,28 +1,19 @@
 -- The laws of answers.
-use Rattle.std.specs.Prelude.{◌≡◌, ◌≢◌, ℕ, ◌≤◌, Bool, true, List, [], length, All, AllPairs, Contains, Some}
+use Rattle.std.specs.Prelude.{◌≡◌, ◌≢◌, ℕ, ◌≤◌, Bool, true, List, length, Contains, Some}
 use Rattle.lf_definitions.specs.Syntax.{LfTerm, LfType}
-use Rattle.lf_definitions.specs.Typing.{Formed}
-use Rattle.lf_definitions.specs.Signatures.{LfSignature, FormedSignature, kinds_in, typing_in}
+use Rattle.lf_definitions.specs.Signatures.{LfSignature}
 use Rattle.lf_definitions.specs.GoalLists.{LfGoals, opening}
-use Rattle.application_laws.specs.Conditions.{TakesAtoms}
 use Rattle.alternatives.specs.Rules.{LfRule}
-use Rattle.derivations.specs.Derivations.{IsDerivable}
 use Rattle.derivations.specs.Replays.{closed, replay}
 use Rattle.derivations.specs.Unfolding.{branches_of, goals_at}
 use Rattle.tree_runs.specs.Addresses.{Address}
 use Rattle.tree_runs.specs.Marks.{is_proved}
 use Rattle.tree_runs.specs.Runs.{is_run}
 use Rattle.tree_runs.specs.States.{TreeEvent}
-use Rattle.right_answers.specs.Blocks.{LfVerdict, proved, stuck, spent, LfBlock}
-use Rattle.right_answers.specs.Right.{state_after, IsRight}
-use Rattle.right_answers.specs.Settled.{script_by, IsAnswerBy, IsSettledRun, IsStillAnswer}
-
--- A theorem's type is well formed over a well-formed signature, the rules have different numbers, and none takes a hypothesis for an argument that has binders.
-pub record IsFormedTheorem (sig : LfSignature) (rules : List LfRule) (a : LfType) : Type 0 where
-  pub signature : FormedSignature sig
-  pub rules_take_atoms : All (λ (rule : LfRule). TakesAtoms sig rule.method) rules
-  pub numbers_differ : AllPairs (λ (rule : LfRule) other. rule.number ≢ other.number) rules
-  pub type : Formed (kinds_in sig) (typing_in sig [] []) a
+use Rattle.answer_definitions.specs.Blocks.{spent, LfBlock}
+use Rattle.answer_definitions.specs.Right.{state_after, IsRight}
+use Rattle.answer_definitions.specs.Settled.{script_by, IsAnswerBy, IsSettledRun, IsStillAnswer}
+use Rattle.answer_definitions.specs.Theorems.{IsFormedTheorem, SaysOfDerivations}
 
 -- Where the root is proved, the script that a run chooses replays to a closed term.
 abbrev pub ChosenScriptsOfRunsReplay : Type 0
@@ -44,12 +35,7 @@ StillAnswersAreUnique =
     × ((one two : LfBlock) → IsStillAnswer sig rules a budget trace name one → IsStillAnswer sig rules a budget trace name two → one ≡ two)
     × ((block : LfBlock) → IsStillAnswer sig rules a budget trace name block → IsRight sig rules budget a name block)
 
--- What a right answer says of derivations: a theorem that is proved is derivable, and one that is stuck isn't.
-abbrev pub SaysOfDerivations : LfSignature → List LfRule → LfType → LfVerdict → Type 0
-SaysOfDerivations sig rules a (proved t script) = IsDerivable sig rules a
-SaysOfDerivations sig rules a stuck = IsDerivable sig rules a → ⊥
-SaysOfDerivations sig rules a spent = Unit {0}
-
+-- Right answers decide derivability: a theorem that is proved is derivable, and one that is stuck isn't.
 abbrev pub RightAnswersDecideDerivability : Type 0
 RightAnswersDecideDerivability =
     (sig : LfSignature) (rules : List LfRule) (budget : ℕ) (a : LfType) (name : List ℕ) (block : LfBlock) → IsRight sig rules budget a name block →

@@ -1,4 +1,1 @@
-pub mod Blocks
-pub mod Right
-pub mod Settled
 pub mod Laws

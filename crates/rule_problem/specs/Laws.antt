@@ -5,7 +5,7 @@ use Rattle.lf_definitions.specs.Typing.{Formed}
 use Rattle.lf_definitions.specs.Signatures.{FormedSignature, kinds_in, typing_in}
 use Rattle.derivations.specs.Unfolding.{branches_of}
 use Rattle.goal_book.specs.GoalBooks.{LfBook, rules_in, IsGoalBook}
-use Rattle.right_answers.specs.Laws.{IsFormedTheorem}
+use Rattle.answer_definitions.specs.Theorems.{IsFormedTheorem}
 use Rattle.rule_problem.specs.Problems.{branches_in}
 
 -- The branches of a book are those of its rules: a tree over it stands over the unfolding.

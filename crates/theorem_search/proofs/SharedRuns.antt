@@ -7,8 +7,8 @@ use Rattle.alternatives.specs.Rules.{LfRule}
 use Rattle.derivations.specs.Unfolding.{branches_of}
 use Rattle.tree_runs.specs.Runs.{is_run, is_settled}
 use Rattle.tree_runs.specs.States.{TreeEvent, state_of}
-use Rattle.right_answers.specs.Blocks.{LfBlock}
-use Rattle.right_answers.specs.Settled.{IsSettledRun}
+use Rattle.answer_definitions.specs.Blocks.{LfBlock}
+use Rattle.answer_definitions.specs.Settled.{IsSettledRun}
 use Rattle.theorem_search.specs.Answers.{IsSharedAnswer, IsAnswerOf}
 
 -- What is known of the branches, the root and the budget of a tree makes its events a settled run for the theorem.

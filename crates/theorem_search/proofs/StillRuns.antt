@@ -11,7 +11,7 @@ use Rattle.tree_runs.specs.Runs.{IsStillRun}
 use Rattle.tree_runs.specs.States.{TreeEvent}
 use Rattle.tree_derivations.proofs.Laws.{opening_is_node}
 use Rattle.goal_book.specs.GoalBooks.{LfBook, rules_in}
-use Rattle.right_answers.specs.Laws.{IsFormedTheorem}
+use Rattle.answer_definitions.specs.Theorems.{IsFormedTheorem}
 use Rattle.right_answers.proofs.Settled.{formed_is_shaped}
 use Rattle.rule_problem.specs.Problems.{branches_in, IsNode}
 

@@ -5,8 +5,8 @@ use Rattle.lf_definitions.specs.Signatures.{LfSignature}
 use Rattle.alternatives.specs.Rules.{LfRule}
 use Rattle.tree_runs.specs.States.{TreeEvent}
 use Rattle.tree_shared.specs.Seats.{AreSeatsBelow}
-use Rattle.right_answers.specs.Blocks.{LfBlock}
-use Rattle.right_answers.specs.Settled.{IsAnswerBy, IsSettledRun, IsStillAnswer}
+use Rattle.answer_definitions.specs.Blocks.{LfBlock}
+use Rattle.answer_definitions.specs.Settled.{IsAnswerBy, IsSettledRun, IsStillAnswer}
 
 module _ (sig : LfSignature) (rules : List LfRule) (a : LfType) (budget : ℕ) (trace : Bool) (name : List ℕ) where
   -- The block is what a settled run answers whose seats are so many.

@@ -8,7 +8,7 @@ ghost use Rattle.lf_terms.specs.Types.{type_of};
 ghost use Rattle.answer_text.specs.Seen.{seen_block, seen_verdict};
 ghost use Rattle.goal_book.specs.GoalBooks.{rules_in};
 ghost use Rattle.meta_goals.specs.GoalsOf.{goals_of};
-ghost use Rattle.right_answers.specs.Settled.{IsAnswerBy, IsVerdictBy, events_shown};
+ghost use Rattle.answer_definitions.specs.Settled.{IsAnswerBy, IsVerdictBy, events_shown};
 ghost use Rattle.rule_problem.specs.Problems.{branches_in, IsNode};
 ghost use Rattle.tree_steps.specs.Trees.{IsTree};
 

@@ -7,9 +7,9 @@ ghost use Rattle.lf_terms.specs.Types.{type_of};
 ghost use Rattle.answer_text.specs.Seen.{seen_block};
 ghost use Rattle.answer_text.specs.Writable.{IsWritable};
 ghost use Rattle.goal_book.specs.GoalBooks.{rules_in};
-ghost use Rattle.right_answers.specs.Right.{IsRight};
-ghost use Rattle.right_answers.specs.Settled.{IsStillAnswer};
-ghost use Rattle.right_answers.specs.Laws.{SaysOfDerivations};
+ghost use Rattle.answer_definitions.specs.Right.{IsRight};
+ghost use Rattle.answer_definitions.specs.Settled.{IsStillAnswer};
+ghost use Rattle.answer_definitions.specs.Theorems.{SaysOfDerivations};
 
 use crate::answer::block_of;
 use answer_text::Block;

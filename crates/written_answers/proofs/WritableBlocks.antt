@@ -4,8 +4,8 @@ use Rattle.std.specs.Prelude.{Option}
 use Rattle.lf_definitions.specs.Syntax.{LfType}
 use Rattle.tree_runs.specs.States.{TreeEvent}
 use Rattle.goal_book.specs.GoalBooks.{LfBook, rules_in}
-use Rattle.right_answers.specs.Blocks.{LfVerdict, proved, stuck, spent}
-use Rattle.right_answers.specs.Right.{IsRightVerdict}
+use Rattle.answer_definitions.specs.Blocks.{LfVerdict, proved, stuck, spent}
+use Rattle.answer_definitions.specs.Right.{IsRightVerdict}
 use Rattle.answer_text.specs.Writable.{IsWritableVerdict}
 use Rattle.written_answers.specs.Laws.{RightBlocksAreWritable}
 use Rattle.written_answers.proofs.PrintableTerms.{closed_terms_are_printable}

@@ -2,8 +2,8 @@
 use Rattle.std.specs.Prelude.{ℕ, List}
 use Rattle.lf_definitions.specs.Syntax.{LfType}
 use Rattle.goal_book.specs.GoalBooks.{LfBook, rules_in}
-use Rattle.right_answers.specs.Blocks.{LfBlock}
-use Rattle.right_answers.specs.Right.{IsRight}
+use Rattle.answer_definitions.specs.Blocks.{LfBlock}
+use Rattle.answer_definitions.specs.Right.{IsRight}
 use Rattle.answer_text.specs.Writable.{IsWritable}
 
 -- A right block for a theorem over a book can be written by its names.

@@ -12,7 +12,7 @@ use Rattle.derivations.specs.Unfolding.{branches_of}
 use Rattle.tree_runs.specs.Marks.{is_decided, is_proved, is_stuck}
 use Rattle.tree_runs.specs.Runs.{is_run}
 use Rattle.tree_runs.specs.States.{TreeEvent, TreeState, state_of}
-use Rattle.right_answers.specs.Blocks.{LfVerdict, proved, stuck, spent, LfBlock}
+use Rattle.answer_definitions.specs.Blocks.{LfVerdict, proved, stuck, spent, LfBlock}
 
 -- the state that events lead to, over the unfolding of a type
 abbrev pub state_after : LfSignature → List LfRule → LfType → List TreeEvent → TreeState LfGoals

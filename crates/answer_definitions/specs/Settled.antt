@@ -8,14 +8,14 @@ use Rattle.applications.specs.Candidates.{counting_from}
 use Rattle.alternatives.specs.Rules.{LfRule}
 use Rattle.derivations.specs.Replays.{LfStep, closed, replay}
 use Rattle.derivations.specs.Unfolding.{branches_of}
-use Rattle.chosen_scripts.specs.Chosen.{same_address, chosen_script}
+use Rattle.answer_definitions.specs.Chosen.{same_address, chosen_script}
 use Rattle.tree_runs.specs.Addresses.{Address, address_of}
 use Rattle.tree_runs.specs.Marks.{is_decided, is_proved, is_stuck}
 use Rattle.tree_runs.specs.Runs.{is_run, is_settled, IsStillRun}
 use Rattle.tree_runs.specs.Shapes.{TreeShape, nodes_count}
 use Rattle.tree_runs.specs.States.{TreeEvent}
-use Rattle.right_answers.specs.Blocks.{LfVerdict, proved, stuck, spent, LfBlock}
-use Rattle.right_answers.specs.Right.{state_after}
+use Rattle.answer_definitions.specs.Blocks.{LfVerdict, proved, stuck, spent, LfBlock}
+use Rattle.answer_definitions.specs.Right.{state_after}
 
 -- Whether a proved node has this address.
 abbrev pub is_proved_at : TreeShape → Address → Bool

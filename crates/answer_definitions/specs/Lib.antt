@@ -1,0 +1,5 @@
+pub mod Blocks
+pub mod Chosen
+pub mod Right
+pub mod Settled
+pub mod Theorems
