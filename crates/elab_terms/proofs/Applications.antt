@@ -16,7 +16,7 @@ arguments_of-apply_all tree (argument ∷ arguments) after = arguments_of-apply_
 
 arguments_of-after : (tree : Tree) (after : List Tree) → arguments_of tree after ≡ arguments_of tree [] ++ after
 arguments_of-after (leaf span) after = refl
-arguments_of-after (abstraction span body) after = refl
+arguments_of-after (abstraction binder body) after = refl
 arguments_of-after (head tree) after = arguments_of-after tree after
 arguments_of-after (apply tree argument) after =
     arguments_of-after tree (argument ∷ after) ∙ sym (append_assoc (arguments_of tree []) (argument ∷ []) after) ∙ ap (λ prefix. prefix ++ after) (sym (arguments_of-after tree (argument ∷ [])))
@@ -61,7 +61,7 @@ before_or_last (x ∷ xs) last t (suc k) e = before_or_last xs last t k e
 -- The parts are smaller than the application.
 pub argument_size : (tree : Tree) (k : ℕ) (t : Tree) → slice_get (arguments_of tree []) k ≡ Some t → tree_size t < tree_size tree
 argument_size (leaf span) k t e = absurd cc
-argument_size (abstraction span body) k t e = absurd cc
+argument_size (abstraction binder body) k t e = absurd cc
 argument_size (head tree) k t e = let inside = argument_size tree k t e in omega (arith, inside)
 argument_size (apply tree argument) k t e =
     ⊎_elim (λ before. let inside : tree_size t < tree_size tree = argument_size tree k t before in omega (arith, inside)) (λ here. omega (arith, ap tree_size here))
@@ -69,20 +69,20 @@ argument_size (apply tree argument) k t e =
 
 pub base_size : (tree : Tree) → tree_size (base_of tree) ≤ tree_size tree
 base_size (leaf span) = omega arith
-base_size (abstraction span body) = omega arith
+base_size (abstraction binder body) = omega arith
 base_size (head tree) = let inside = base_size tree in omega (arith, inside)
 base_size (apply tree argument) = let inside = base_size tree in omega (arith, inside)
 
 -- What is applied is no application.
 abbrev IsBase : Tree → Type 0
 IsBase (leaf span) = Unit {0}
-IsBase (abstraction span body) = Unit {0}
+IsBase (abstraction binder body) = Unit {0}
 IsBase (head tree) = ⊥
 IsBase (apply tree argument) = ⊥
 
 base_is : (tree : Tree) → IsBase (base_of tree)
 base_is (leaf span) = tt
-base_is (abstraction span body) = tt
+base_is (abstraction binder body) = tt
 base_is (head tree) = base_is tree
 base_is (apply tree argument) = base_is tree
 

@@ -7,6 +7,7 @@ use Rattle.lf_definitions.specs.Typing.{Typing, with_variable}
 use Rattle.lf_definitions.specs.Signatures.{LfSignature, kinds_in}
 use Rattle.lf_definitions.proofs.Options.{None-Some, Some_inj}
 use Rattle.file_trees.specs.declared.span.Span.{Span}
+use Rattle.file_trees.specs.declared.span.BinderSpan.{BinderSpan}
 use Rattle.file_trees.specs.Trees.{Tree, leaf, abstraction, Classifier}
 use Rattle.file_trees.specs.Trees as trees
 use Rattle.file_trees.specs.Places.{tree_place}
@@ -17,25 +18,25 @@ use Rattle.elab_terms.specs.Terms.{ReadsArguments, RefusesTerm, refuses_abstract
 use Rattle.elab_terms.specs.Types.{IsBinder, ReadsType, RefusesType, refuses_binder, refuses_domain, refuses_rest, refuses_family, refuses_word, refuses_few, refuses_family_argument, refuses_family_extra}
 use Rattle.elab_terms.specs.declared.elab_fault.ElabFault.{ElabFault}
 use Rattle.elab_terms.specs.declared.elab_fault.ElabFault.TheVariants.{TooMany, Unknown, Redex, IllTyped}
-use Rattle.elab_terms.proofs.ReadOnce.{leaf-abstraction, leaf_inj, abstraction_span, abstraction_body, same_head, same_known, same_binders, same_end, same_binder, no_binder}
+use Rattle.elab_terms.proofs.ReadOnce.{leaf-abstraction, leaf_inj, abstraction_binder, abstraction_body, same_head, same_known, same_binders, same_end, same_binder, no_binder}
 
 -- An abstraction, by its arguments and the type that is wanted.
-abbrev pub FaultOfAbstraction : Text → LfSignature → Bound → Typing → Span → Tree → List Tree → LfType → ElabFault → Type 0
-FaultOfAbstraction text sig binders Γ span body (argument ∷ arguments) wanted fault = fault ≡ Redex span.start
-FaultOfAbstraction text sig binders Γ span body [] (family f args) fault = fault ≡ IllTyped span.start
-FaultOfAbstraction text sig binders Γ span body [] (pi a c) fault = RefusesTerm text sig (binder_name text span ∷ binders) (with_variable a Γ) body c fault
+abbrev pub FaultOfAbstraction : Text → LfSignature → Bound → Typing → BinderSpan → Tree → List Tree → LfType → ElabFault → Type 0
+FaultOfAbstraction text sig binders Γ binder body (argument ∷ arguments) wanted fault = fault ≡ Redex binder.opening
+FaultOfAbstraction text sig binders Γ binder body [] (family f args) fault = fault ≡ IllTyped binder.opening
+FaultOfAbstraction text sig binders Γ binder body [] (pi a c) fault = RefusesTerm text sig (binder_name text binder ∷ binders) (with_variable a Γ) body c fault
 
-pub fault_of_abstraction : {text : Text} {sig : LfSignature} {binders : Bound} {Γ : Typing} {tree body : Tree} {span : Span} {arguments : List Tree} {wanted : LfType} {fault : ElabFault} →
-    IsApplied tree [] (abstraction span body) arguments → RefusesTerm text sig binders Γ tree wanted fault → FaultOfAbstraction text sig binders Γ span body arguments wanted fault
-fault_of_abstraction {text = text} {sig = sig} {body = body} {span = span} is (refuses_abstraction binders Γ tree other more f args are) =
-    subst (λ xs. FaultOfAbstraction text sig binders Γ span body xs (family f args) (IllTyped other.start)) (sym are.1 ∙ is.1)
-    (ap (λ s. IllTyped s.start) (abstraction_span are.0 is.0))
-fault_of_abstraction {text = text} {sig = sig} {body = body} {span = span} is (refuses_body binders Γ tree other more a c fault are refused) =
-    subst (λ xs. FaultOfAbstraction text sig binders Γ span body xs (pi a c) fault) (sym are.1 ∙ is.1)
-    (subst₂ (λ s x. RefusesTerm text sig (binder_name text s ∷ binders) (with_variable a Γ) x c fault) (abstraction_span are.0 is.0) (abstraction_body are.0 is.0) refused)
-fault_of_abstraction {text = text} {sig = sig} {body = body} {span = span} is (refuses_redex binders Γ tree argument other more arguments wanted are) =
-    subst (λ xs. FaultOfAbstraction text sig binders Γ span body xs wanted (Redex other.start)) (sym are.1 ∙ is.1)
-    (ap (λ s. Redex s.start) (abstraction_span are.0 is.0))
+pub fault_of_abstraction : {text : Text} {sig : LfSignature} {binders : Bound} {Γ : Typing} {tree body : Tree} {binder : BinderSpan} {arguments : List Tree} {wanted : LfType} {fault : ElabFault} →
+    IsApplied tree [] (abstraction binder body) arguments → RefusesTerm text sig binders Γ tree wanted fault → FaultOfAbstraction text sig binders Γ binder body arguments wanted fault
+fault_of_abstraction {text = text} {sig = sig} {body = body} {binder = binder} is (refuses_abstraction binders Γ tree other more f args are) =
+    subst (λ xs. FaultOfAbstraction text sig binders Γ binder body xs (family f args) (IllTyped other.opening)) (sym are.1 ∙ is.1)
+    (ap (λ s. IllTyped s.opening) (abstraction_binder are.0 is.0))
+fault_of_abstraction {text = text} {sig = sig} {body = body} {binder = binder} is (refuses_body binders Γ tree other more a c fault are refused) =
+    subst (λ xs. FaultOfAbstraction text sig binders Γ binder body xs (pi a c) fault) (sym are.1 ∙ is.1)
+    (subst₂ (λ s x. RefusesTerm text sig (binder_name text s ∷ binders) (with_variable a Γ) x c fault) (abstraction_binder are.0 is.0) (abstraction_body are.0 is.0) refused)
+fault_of_abstraction {text = text} {sig = sig} {body = body} {binder = binder} is (refuses_redex binders Γ tree argument other more arguments wanted are) =
+    subst (λ xs. FaultOfAbstraction text sig binders Γ binder body xs wanted (Redex other.opening)) (sym are.1 ∙ is.1)
+    (ap (λ s. Redex s.opening) (abstraction_binder are.0 is.0))
 fault_of_abstraction is (refuses_name binders Γ tree other arguments wanted are none) = absurd (leaf-abstraction are.0 is.0)
 fault_of_abstraction is (refuses_extra binders Γ tree extra other arguments h domains f args wanted are resolved known there) = absurd (leaf-abstraction are.0 is.0)
 fault_of_abstraction is (refuses_in_argument binders Γ tree other arguments h domains f args wanted fault are resolved known few refused) = absurd (leaf-abstraction are.0 is.0)

@@ -15,7 +15,7 @@ last_measure (Group inner) = 4 * classifier_size inner.value + 3
 
 some_bindings : (bs : List Binding) → bs ≢ [] → 2 ≤ bindings_size bs
 some_bindings [] some = absurd (some refl)
-some_bindings (pi_of span domain ∷ bs) some = omega arith
+some_bindings (pi_of binder domain ∷ bs) some = omega arith
 some_bindings (arrow_of left ∷ bs) some = omega arith
 
 pub last_falls : (last : Last) (bs : List Binding) (tree : Classifier) → IsLast last bs → bind bs (last_of last) ≡ tree → last_measure last < 4 * classifier_size tree + 2
@@ -45,7 +45,7 @@ same_binding (b ∷ items) zero x y within is at = ap binding_of (is ∙ sym at)
 same_binding (b ∷ items) (suc i) x y within is at = same_binding items i x y (omega arith) is at
 
 binding_size : (b : Binding) (bs : List Binding) → classifier_size (domain_of b) + 2 + bindings_size bs ≡ bindings_size (b ∷ bs)
-binding_size (pi_of span domain) bs = omega arith
+binding_size (pi_of binder domain) bs = omega arith
 binding_size (arrow_of left) bs = omega arith
 
 pub domain_falls : (items : List Binder) (i : ℕ) (item : Binder) → i < length items → item ≡ get_or items i item → classifier_size (domain_of (binding_of item)) + 2 ≤ bindings_size (bindings_of items)

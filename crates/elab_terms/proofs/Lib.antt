@@ -1,5 +1,4 @@
 pub mod SignatureNames
-pub mod TokenPlaces
 pub mod ReadTyped
 pub mod ReadOnce
 pub mod FaultCases

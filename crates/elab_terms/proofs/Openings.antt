@@ -19,21 +19,21 @@ use Rattle.elab_terms.proofs.Reading.{have_types_under}
 
 pub classifier_size-bind : (bindings : List Binding) (last : Classifier) → classifier_size (bind bindings last) ≡ bindings_size bindings + classifier_size last
 classifier_size-bind [] last = omega arith
-classifier_size-bind (pi_of span domain ∷ bindings) last = let rest = classifier_size-bind bindings last in omega (arith, rest)
+classifier_size-bind (pi_of binder domain ∷ bindings) last = let rest = classifier_size-bind bindings last in omega (arith, rest)
 classifier_size-bind (arrow_of left ∷ bindings) last = let rest = classifier_size-bind bindings last in omega (arith, rest)
 
 pub some_size : (tree : Classifier) → 1 ≤ classifier_size tree
-some_size (trees.pi span domain rest) = omega arith
+some_size (trees.pi binder domain rest) = omega arith
 some_size (trees.arrow left right) = omega arith
 some_size (trees.family span arguments) = omega arith
 some_size (trees.star span) = omega arith
 
 pub is_binder : (text : Text) (binding : Binding) (rest : Classifier) → IsBinder text (bind (binding ∷ []) rest) (binding_place binding) (domain_of binding) rest (binding_name text binding)
-is_binder text (pi_of span domain) rest = pi_binder span domain rest
+is_binder text (pi_of binder domain) rest = pi_binder binder domain rest
 is_binder text (arrow_of left) rest = arrow_binder left rest
 
 pub bind_cons : (binding : Binding) (bindings : List Binding) (last : Classifier) → bind (binding ∷ []) (bind bindings last) ≡ bind (binding ∷ bindings) last
-bind_cons (pi_of span domain) bindings last = refl
+bind_cons (pi_of binder domain) bindings last = refl
 bind_cons (arrow_of left) bindings last = refl
 
 -- none is read yet

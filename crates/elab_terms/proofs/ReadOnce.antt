@@ -8,6 +8,7 @@ use Rattle.lf_definitions.proofs.Uniqueness.{unique_type}
 use Rattle.lf_definitions.proofs.Failures.{binders_of, binders_of-pis, conclusion-pis, family_args_of, family_args_of-pis}
 use Rattle.lf_definitions.proofs.Options.{Some_inj}
 use Rattle.file_trees.specs.declared.span.Span.{Span}
+use Rattle.file_trees.specs.declared.span.BinderSpan.{BinderSpan}
 use Rattle.file_trees.specs.Trees.{Tree, leaf, abstraction, Classifier}
 use Rattle.file_trees.specs.Trees as trees
 use Rattle.elab_terms.specs.Names.{Text, text_at, binder_name, Bound, named_head}
@@ -16,16 +17,16 @@ use Rattle.elab_terms.specs.Terms.{ReadsTerm, reads_abstraction, reads_applicati
 use Rattle.elab_terms.specs.Types.{IsBinder, pi_binder, arrow_binder, ReadsType, reads_binder, reads_family, ReadsKind, reads_type_word, reads_kind_binder}
 
 -- A tree has one head and one list of arguments.
-pub leaf-abstraction : {tree : Tree} {span other : Span} {body : Tree} → tree ≡ leaf span → tree ≡ abstraction other body → ⊥
+pub leaf-abstraction : {tree : Tree} {span : Span} {binder : BinderSpan} {body : Tree} → tree ≡ leaf span → tree ≡ abstraction binder body → ⊥
 leaf-abstraction e f = cc
 
 pub leaf_inj : {tree : Tree} {span other : Span} → tree ≡ leaf span → tree ≡ leaf other → span ≡ other
 leaf_inj e f = cc
 
-pub abstraction_span : {tree : Tree} {span other : Span} {body more : Tree} → tree ≡ abstraction span body → tree ≡ abstraction other more → span ≡ other
-abstraction_span e f = cc
+pub abstraction_binder : {tree : Tree} {binder other : BinderSpan} {body more : Tree} → tree ≡ abstraction binder body → tree ≡ abstraction other more → binder ≡ other
+abstraction_binder e f = cc
 
-pub abstraction_body : {tree : Tree} {span other : Span} {body more : Tree} → tree ≡ abstraction span body → tree ≡ abstraction other more → body ≡ more
+pub abstraction_body : {tree : Tree} {binder other : BinderSpan} {body more : Tree} → tree ≡ abstraction binder body → tree ≡ abstraction other more → body ≡ more
 abstraction_body e f = cc
 
 -- A name's head is one, and so is its type.
@@ -78,10 +79,10 @@ same_domains same read reads = sym (length-ReadsArguments read) ∙ ap length sa
 mutual
   pub unique_term : {text : Text} {sig : LfSignature} {binders : Bound} {Γ : Typing} {tree : Tree} {a : LfType} {t u : LfTerm} →
       ReadsTerm text sig binders Γ tree a t → ReadsTerm text sig binders Γ tree a u → t ≡ u
-  unique_term {text = text} {sig = sig} (reads_abstraction binders Γ tree span body a c b is read) (reads_abstraction _ _ _ other more _ _ d are reads) =
+  unique_term {text = text} {sig = sig} (reads_abstraction binders Γ tree binder body a c b is read) (reads_abstraction _ _ _ other more _ _ d are reads) =
       ap lam (unique_term read
-      (subst₂ (λ s x. ReadsTerm text sig (binder_name text s ∷ binders) (with_variable a Γ) x c d) (abstraction_span are.0 is.0) (abstraction_body are.0 is.0) reads))
-  unique_term (reads_abstraction binders Γ tree span body a c b is read) (reads_application _ _ _ other arguments k second left g brgs us _ are found known reads result) =
+      (subst₂ (λ s x. ReadsTerm text sig (binder_name text s ∷ binders) (with_variable a Γ) x c d) (abstraction_binder are.0 is.0) (abstraction_body are.0 is.0) reads))
+  unique_term (reads_abstraction binders Γ tree binder body a c b is read) (reads_application _ _ _ other arguments k second left g brgs us _ are found known reads result) =
       absurd (leaf-abstraction are.0 is.0)
   unique_term (reads_application binders Γ tree span arguments h first missing f args ts _ is resolved known read result) (reads_abstraction _ _ _ other more a c d are reads) =
       absurd (leaf-abstraction is.0 are.0)
@@ -110,7 +111,7 @@ pub record SameBinder (place start : ℕ) (domain other rest left : Classifier) 
 
 pub same_binder : {text : Text} {whole domain other rest left : Classifier} {place start : ℕ} {name binder : Option (List ℕ)} →
     IsBinder text whole place domain rest name → IsBinder text whole start other left binder → SameBinder place start domain other rest left name binder
-same_binder (pi_binder span domain rest) (pi_binder _ _ _) = record { place_is = refl; domain_is = refl; rest_is = refl; name_is = refl }
+same_binder (pi_binder binder domain rest) (pi_binder _ _ _) = record { place_is = refl; domain_is = refl; rest_is = refl; name_is = refl }
 same_binder (arrow_binder domain rest) (arrow_binder _ _) = record { place_is = refl; domain_is = refl; rest_is = refl; name_is = refl }
 
 pub no_binder : {text : Text} {span : Span} {arguments : List Tree} {place : ℕ} {domain rest : Classifier} {name : Option (List ℕ)} →

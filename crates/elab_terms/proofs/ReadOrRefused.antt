@@ -52,7 +52,7 @@ sound_application {text = text} {sig = sig} {binders = binders} {Γ = Γ} {argum
 mutual
   pub read_term_not_refused : {text : Text} {sig : LfSignature} {binders : Bound} {Γ : Typing} {tree : Tree} {a : LfType} {t : LfTerm} {fault : ElabFault} →
       ReadsTerm text sig binders Γ tree a t → RefusesTerm text sig binders Γ tree a fault → ⊥
-  read_term_not_refused (reads_abstraction binders Γ tree span body a c b is read) refused = read_term_not_refused read (fault_of_abstraction is refused)
+  read_term_not_refused (reads_abstraction binders Γ tree binder body a c b is read) refused = read_term_not_refused read (fault_of_abstraction is refused)
   read_term_not_refused (reads_application binders Γ tree span arguments h first missing f args ts wanted is resolved known read result) refused =
       sound_application missing (λ other wrong. read_arguments_not_refused read missing wrong) read result (fault_of_application is resolved known refused)
 
@@ -94,9 +94,9 @@ result_first missing read (wrong_result other left us found are reads ends diffe
 mutual
   pub one_fault_of_term : {text : Text} {sig : LfSignature} {binders : Bound} {Γ : Typing} {tree : Tree} {a : LfType} {fault other : ElabFault} →
       RefusesTerm text sig binders Γ tree a fault → RefusesTerm text sig binders Γ tree a other → fault ≡ other
-  one_fault_of_term (refuses_abstraction binders Γ tree span body f args is) refused = sym (fault_of_abstraction is refused)
-  one_fault_of_term (refuses_body binders Γ tree span body a c fault is wrong) refused = one_fault_of_term wrong (fault_of_abstraction is refused)
-  one_fault_of_term (refuses_redex binders Γ tree argument span body arguments wanted is) refused = sym (fault_of_abstraction is refused)
+  one_fault_of_term (refuses_abstraction binders Γ tree binder body f args is) refused = sym (fault_of_abstraction is refused)
+  one_fault_of_term (refuses_body binders Γ tree binder body a c fault is wrong) refused = one_fault_of_term wrong (fault_of_abstraction is refused)
+  one_fault_of_term (refuses_redex binders Γ tree argument binder body arguments wanted is) refused = sym (fault_of_abstraction is refused)
   one_fault_of_term (refuses_name binders Γ tree span arguments wanted is none) refused = sym (fault_of_name is none refused)
   one_fault_of_term (refuses_extra binders Γ tree extra span arguments h domains f args wanted is resolved known there) refused =
       extra_first there (fault_of_application is resolved known refused)

@@ -33,7 +33,7 @@ shaped_first (a ∷ first) missing (shaped_entry p ps) = shaped_entry p (shaped_
 mutual
   pub Typed-ReadsTerm : {text : Text} {sig : LfSignature} {binders : Bound} {Γ : Typing} {tree : Tree} {a : LfType} {t : LfTerm} → ReadsTerm text sig binders Γ tree a t →
       (kinds : Kinds) → Founded kinds Γ → ShapedType (shapes_of_kinds kinds) (shapes_of Γ) a → Typed Γ t a
-  Typed-ReadsTerm (reads_abstraction binders Γ tree span body a c b is read) kinds good shaped =
+  Typed-ReadsTerm (reads_abstraction binders Γ tree binder body a c b is read) kinds good shaped =
       typed_lam (Typed-ReadsTerm read kinds (Founded-with_variable kinds Γ a good (shaped_argument shaped))
       (subst (λ Δ. ShapedType (shapes_of_kinds kinds) Δ c) (sym (shapes_of-under Γ a)) (shaped_result shaped)))
   Typed-ReadsTerm (reads_application binders Γ tree span arguments h first missing f args ts wanted is resolved known read result) kinds good shaped =

@@ -24,6 +24,7 @@ use Rattle.lf_kernel.specs.declared.head_type.HeadType.{HeadType}
 use Rattle.lf_kernel.specs.declared.local_context.LocalContext as places
 use Rattle.lf_kernel.proofs.Heads.{typing_under-constant}
 use Rattle.file_trees.specs.declared.span.Span.{Span}
+use Rattle.file_trees.specs.declared.span.BinderSpan.{BinderSpan}
 use Rattle.file_trees.specs.Trees.{Tree, leaf, abstraction}
 use Rattle.file_trees.specs.Places.{tree_place}
 use Rattle.elab_terms.specs.Applied.{base_of, arguments_of}
@@ -90,37 +91,37 @@ wanted_under sig Γ Δ wanted a b typing is shaped =
     subst (λ θ. ShapedType (kind_shapes_in sig) θ b) (sym (shapes_of-under Γ a) ∙ ap shapes_of (sym typing)) (shaped_result (subst (IsWanted sig Γ) is shaped))
 
 -- An abstraction.
-pub abstraction_ill : (text : Text) (sig : LfSignature) (binders : Bound) (Γ : Typing) (tree body : Tree) (span : Span) (wanted : Ty) (types : List Ty) (left : ℕ) → base_of tree ≡ abstraction span body →
-    0 ≡ length (arguments_of tree []) + left → types_of types ≡ wanted.binders → length types ≡ 0 → RefusesTerm text sig binders Γ tree (type_of wanted) (IllTyped span.start)
-abstraction_ill text sig binders Γ tree body span wanted types left first none are empty =
-    subst (λ a. RefusesTerm text sig binders Γ tree a (IllTyped span.start)) (ap (λ bs. pis bs (family wanted.family wanted.args)) (sym (no_types types empty) ∙ are))
-    (refuses_abstraction binders Γ tree span body wanted.family wanted.args (first, no_arguments (arguments_of tree []) (omega arith)))
+pub abstraction_ill : (text : Text) (sig : LfSignature) (binders : Bound) (Γ : Typing) (tree body : Tree) (binder : BinderSpan) (wanted : Ty) (types : List Ty) (left : ℕ) → base_of tree ≡ abstraction binder body →
+    0 ≡ length (arguments_of tree []) + left → types_of types ≡ wanted.binders → length types ≡ 0 → RefusesTerm text sig binders Γ tree (type_of wanted) (IllTyped binder.opening)
+abstraction_ill text sig binders Γ tree body binder wanted types left first none are empty =
+    subst (λ a. RefusesTerm text sig binders Γ tree a (IllTyped binder.opening)) (ap (λ bs. pis bs (family wanted.family wanted.args)) (sym (no_types types empty) ∙ are))
+    (refuses_abstraction binders Γ tree binder body wanted.family wanted.args (first, no_arguments (arguments_of tree []) (omega arith)))
   where
     no_types : (ts : List Ty) → length ts ≡ 0 → types_of ts ≡ []
     no_types [] e = refl
     no_types (t ∷ ts) e = absurd (omega arith)
 
-pub abstraction_redex : (text : Text) (sig : LfSignature) (binders : Bound) (Γ : Typing) (tree body argument : Tree) (span : Span) (wanted : LfType) → base_of tree ≡ abstraction span body →
-    slice_get (arguments_of tree []) 0 ≡ Some argument → RefusesTerm text sig binders Γ tree wanted (Redex span.start)
-abstraction_redex text sig binders Γ tree body argument span wanted first there = by (arguments_of tree []) refl there
+pub abstraction_redex : (text : Text) (sig : LfSignature) (binders : Bound) (Γ : Typing) (tree body argument : Tree) (binder : BinderSpan) (wanted : LfType) → base_of tree ≡ abstraction binder body →
+    slice_get (arguments_of tree []) 0 ≡ Some argument → RefusesTerm text sig binders Γ tree wanted (Redex binder.opening)
+abstraction_redex text sig binders Γ tree body argument binder wanted first there = by (arguments_of tree []) refl there
   where
-    by : (arguments : List Tree) → arguments_of tree [] ≡ arguments → slice_get arguments 0 ≡ Some argument → RefusesTerm text sig binders Γ tree wanted (Redex span.start)
+    by : (arguments : List Tree) → arguments_of tree [] ≡ arguments → slice_get arguments 0 ≡ Some argument → RefusesTerm text sig binders Γ tree wanted (Redex binder.opening)
     by [] are e = absurd cc
-    by (t ∷ ts) are e = refuses_redex binders Γ tree t span body ts wanted (first, are)
+    by (t ∷ ts) are e = refuses_redex binders Γ tree t binder body ts wanted (first, are)
 
-pub abstraction_read : (text : Text) (sig : LfSignature) (binders new : Bound) (Γ Δ : Typing) (tree body : Tree) (span : Span) (wanted a c : LfType) (t u : LfTerm) (left : ℕ) → base_of tree ≡ abstraction span body →
-    0 ≡ length (arguments_of tree []) + left → new ≡ binder_name text span ∷ binders → Δ ≡ with_variable a Γ → wanted ≡ pi a c → u ≡ t → ReadsTerm text sig new Δ body c t →
+pub abstraction_read : (text : Text) (sig : LfSignature) (binders new : Bound) (Γ Δ : Typing) (tree body : Tree) (binder : BinderSpan) (wanted a c : LfType) (t u : LfTerm) (left : ℕ) → base_of tree ≡ abstraction binder body →
+    0 ≡ length (arguments_of tree []) + left → new ≡ binder_name text binder ∷ binders → Δ ≡ with_variable a Γ → wanted ≡ pi a c → u ≡ t → ReadsTerm text sig new Δ body c t →
     ReadsTerm text sig binders Γ tree wanted (lam u)
-abstraction_read text sig binders new Γ Δ tree body span wanted a c t u left first none new_is typing is same read =
+abstraction_read text sig binders new Γ Δ tree body binder wanted a c t u left first none new_is typing is same read =
     subst₂ (λ w x. ReadsTerm text sig binders Γ tree w (lam x)) (sym is) (sym same)
-    (reads_abstraction binders Γ tree span body a c t (first, no_arguments (arguments_of tree []) (omega arith)) (subst₂ (λ b θ. ReadsTerm text sig b θ body c t) new_is typing read))
+    (reads_abstraction binders Γ tree binder body a c t (first, no_arguments (arguments_of tree []) (omega arith)) (subst₂ (λ b θ. ReadsTerm text sig b θ body c t) new_is typing read))
 
-pub abstraction_refused : (text : Text) (sig : LfSignature) (binders new : Bound) (Γ Δ : Typing) (tree body : Tree) (span : Span) (wanted a c : LfType) (left : ℕ) → base_of tree ≡ abstraction span body →
-    0 ≡ length (arguments_of tree []) + left → new ≡ binder_name text span ∷ binders → Δ ≡ with_variable a Γ → wanted ≡ pi a c → (fault : ElabFault) → RefusesTerm text sig new Δ body c fault →
+pub abstraction_refused : (text : Text) (sig : LfSignature) (binders new : Bound) (Γ Δ : Typing) (tree body : Tree) (binder : BinderSpan) (wanted a c : LfType) (left : ℕ) → base_of tree ≡ abstraction binder body →
+    0 ≡ length (arguments_of tree []) + left → new ≡ binder_name text binder ∷ binders → Δ ≡ with_variable a Γ → wanted ≡ pi a c → (fault : ElabFault) → RefusesTerm text sig new Δ body c fault →
     RefusesTerm text sig binders Γ tree wanted fault
-abstraction_refused text sig binders new Γ Δ tree body span wanted a c left first none new_is typing is fault refused =
+abstraction_refused text sig binders new Γ Δ tree body binder wanted a c left first none new_is typing is fault refused =
     subst (λ w. RefusesTerm text sig binders Γ tree w fault) (sym is)
-    (refuses_body binders Γ tree span body a c fault (first, no_arguments (arguments_of tree []) (omega arith)) (subst₂ (λ b θ. RefusesTerm text sig b θ body c fault) new_is typing refused))
+    (refuses_body binders Γ tree binder body a c fault (first, no_arguments (arguments_of tree []) (omega arith)) (subst₂ (λ b θ. RefusesTerm text sig b θ body c fault) new_is typing refused))
 
 -- A head that a name stands for has a type.
 raised_within : (found : Option ℕ) (n count : ℕ) → option_map suc found ≡ Some n → ((m : ℕ) → found ≡ Some m → m < count) → n < suc count

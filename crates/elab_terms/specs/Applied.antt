@@ -4,14 +4,14 @@ use Rattle.file_trees.specs.Trees.{Tree, leaf, abstraction, head, apply}
 
 abbrev pub base_of : Tree → Tree
 base_of (leaf span) = leaf span
-base_of (abstraction span body) = abstraction span body
+base_of (abstraction binder body) = abstraction binder body
 base_of (head tree) = base_of tree
 base_of (apply tree argument) = base_of tree
 
 -- the arguments, and then others
 abbrev pub arguments_of : Tree → List Tree → List Tree
 arguments_of (leaf span) after = after
-arguments_of (abstraction span body) after = after
+arguments_of (abstraction binder body) after = after
 arguments_of (head tree) after = arguments_of tree after
 arguments_of (apply tree argument) after = arguments_of tree (argument ∷ after)
 

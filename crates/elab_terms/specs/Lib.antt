@@ -3,7 +3,6 @@ pub mod Applied
 pub mod Terms
 pub mod Types
 pub mod Laws
-pub mod FileTexts
 pub mod Binding
 pub mod KnownTypes
 pub mod Domains

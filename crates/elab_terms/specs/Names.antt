@@ -1,34 +1,23 @@
 -- What the names in a file stand for.
-use Rattle.std.specs.Prelude.{ℕ, suc, List, [], ◌∷◌, Option, Some, None, option_map, if◌then◌else◌, slice_range, nat_eq}
+use Rattle.std.specs.Prelude.{ℕ, suc, List, [], ◌∷◌, Option, Some, None, option_map, if◌then◌else◌, slice_range}
 use Rattle.std.specs.Str.{bytes_eq}
-use Rattle.lex_text.specs.declared.token.Token.{Token}
-use Rattle.lex_text.specs.Tokens.{text_of}
 use Rattle.basics.specs.Places.{place_of}
 use Rattle.lf_definitions.specs.Syntax.{LfHead, bound, constant}
 use Rattle.lf_definitions.specs.Signatures.{LfSignature, constant_names, family_names}
 use Rattle.file_trees.specs.declared.span.Span.{Span}
+use Rattle.file_trees.specs.declared.span.BinderSpan.{BinderSpan}
 
--- a file: its bytes and its tokens
-pub record Text : Type 0 where
-  pub bytes : List ℕ
-  pub tokens : List Token
+-- the bytes of a file
+abbrev pub Text : Type 0
+Text = List ℕ
 
 -- the bytes of a span
 abbrev pub text_at : Text → Span → List ℕ
-text_at text span = slice_range text.bytes span.start span.end
+text_at text span = slice_range text span.start span.end
 
-abbrev pub first_text : List ℕ → List Token → Option (List ℕ)
-first_text bytes [] = None
-first_text bytes (first ∷ rest) = Some (text_of bytes first)
-
--- the token after the one that starts at a place
-abbrev pub text_after : List ℕ → List Token → ℕ → Option (List ℕ)
-text_after bytes [] place = None
-text_after bytes (opening ∷ rest) place = if nat_eq opening.start place then first_text bytes rest else text_after bytes rest place
-
--- The name that a binder binds stands after the terminal that opens it.
-abbrev pub binder_name : Text → Span → Option (List ℕ)
-binder_name text span = text_after text.bytes text.tokens span.start
+-- the name that a binder binds
+abbrev pub binder_name : Text → BinderSpan → Option (List ℕ)
+binder_name text binder = Some (text_at text binder.name)
 
 -- the names of the binders around a place, the innermost first; the left side of an arrow binds none
 abbrev pub Bound : Type 0

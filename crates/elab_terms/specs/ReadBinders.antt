@@ -11,15 +11,15 @@ use Rattle.elab_terms.specs.declared.elab_fault.ElabFault.{ElabFault}
 
 -- the place of a binder, its type, and the name that it binds
 abbrev pub binding_place : Binding → ℕ
-binding_place (pi_of span domain) = span.start
+binding_place (pi_of binder domain) = binder.opening
 binding_place (arrow_of left) = classifier_place left
 
 abbrev pub domain_of : Binding → Classifier
-domain_of (pi_of span domain) = domain
+domain_of (pi_of binder domain) = domain
 domain_of (arrow_of left) = left
 
 abbrev pub binding_name : Text → Binding → Option (List ℕ)
-binding_name text (pi_of span domain) = binder_name text span
+binding_name text (pi_of binder domain) = binder_name text binder
 binding_name text (arrow_of left) = None
 
 -- Some binders of a type are read: what the rest is read as, or refused for, in the scope of these, is what the whole is after them.

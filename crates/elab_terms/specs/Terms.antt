@@ -8,6 +8,7 @@ use Rattle.lf_definitions.specs.Typing.{Typing, with_variable}
 use Rattle.lf_definitions.specs.Signatures.{LfSignature}
 use Rattle.typing_laws.specs.EtaLaws.{expanded}
 use Rattle.file_trees.specs.declared.span.Span.{Span}
+use Rattle.file_trees.specs.declared.span.BinderSpan.{BinderSpan}
 use Rattle.file_trees.specs.Trees.{Tree, leaf, abstraction}
 use Rattle.file_trees.specs.Places.{tree_place}
 use Rattle.elab_terms.specs.Applied.{IsApplied}
@@ -18,8 +19,8 @@ use Rattle.elab_terms.specs.declared.elab_fault.ElabFault.TheVariants.{Unknown, 
 mutual
   pub data ReadsTerm (text : Text) (sig : LfSignature) : Bound → Typing → Tree → LfType → LfTerm → Type 0 where
     -- An abstraction is read at a function type: it binds its variable, and its body is read at the result type.
-    reads_abstraction : (binders : Bound) (Γ : Typing) (tree : Tree) (span : Span) (body : Tree) (a c : LfType) (b : LfTerm) →
-        IsApplied tree [] (abstraction span body) [] → ReadsTerm text sig (binder_name text span ∷ binders) (with_variable a Γ) body c b →
+    reads_abstraction : (binders : Bound) (Γ : Typing) (tree : Tree) (binder : BinderSpan) (body : Tree) (a c : LfType) (b : LfTerm) →
+        IsApplied tree [] (abstraction binder body) [] → ReadsTerm text sig (binder_name text binder ∷ binders) (with_variable a Γ) body c b →
         ReadsTerm text sig binders Γ tree (pi a c) (lam b)
     -- An application of a name: the arguments are read at the first binders of its type, and what remains of that is the type that is wanted.
     reads_application : (binders : Bound) (Γ : Typing) (tree : Tree) (span : Span) (arguments : List Tree) (h : LfHead) (first missing : List LfType) (f : ℕ)
@@ -38,14 +39,14 @@ mutual
 mutual
   pub data RefusesTerm (text : Text) (sig : LfSignature) : Bound → Typing → Tree → LfType → ElabFault → Type 0 where
     -- an abstraction at an atomic type
-    refuses_abstraction : (binders : Bound) (Γ : Typing) (tree : Tree) (span : Span) (body : Tree) (f : ℕ) (args : Spine) →
-        IsApplied tree [] (abstraction span body) [] → RefusesTerm text sig binders Γ tree (family f args) (IllTyped span.start)
-    refuses_body : (binders : Bound) (Γ : Typing) (tree : Tree) (span : Span) (body : Tree) (a c : LfType) (fault : ElabFault) →
-        IsApplied tree [] (abstraction span body) [] → RefusesTerm text sig (binder_name text span ∷ binders) (with_variable a Γ) body c fault →
+    refuses_abstraction : (binders : Bound) (Γ : Typing) (tree : Tree) (binder : BinderSpan) (body : Tree) (f : ℕ) (args : Spine) →
+        IsApplied tree [] (abstraction binder body) [] → RefusesTerm text sig binders Γ tree (family f args) (IllTyped binder.opening)
+    refuses_body : (binders : Bound) (Γ : Typing) (tree : Tree) (binder : BinderSpan) (body : Tree) (a c : LfType) (fault : ElabFault) →
+        IsApplied tree [] (abstraction binder body) [] → RefusesTerm text sig (binder_name text binder ∷ binders) (with_variable a Γ) body c fault →
         RefusesTerm text sig binders Γ tree (pi a c) fault
     -- an abstraction that is applied
-    refuses_redex : (binders : Bound) (Γ : Typing) (tree argument : Tree) (span : Span) (body : Tree) (arguments : List Tree) (wanted : LfType) →
-        IsApplied tree [] (abstraction span body) (argument ∷ arguments) → RefusesTerm text sig binders Γ tree wanted (Redex span.start)
+    refuses_redex : (binders : Bound) (Γ : Typing) (tree argument : Tree) (binder : BinderSpan) (body : Tree) (arguments : List Tree) (wanted : LfType) →
+        IsApplied tree [] (abstraction binder body) (argument ∷ arguments) → RefusesTerm text sig binders Γ tree wanted (Redex binder.opening)
     -- a name that is no variable and no constant
     refuses_name : (binders : Bound) (Γ : Typing) (tree : Tree) (span : Span) (arguments : List Tree) (wanted : LfType) →
         IsApplied tree [] (leaf span) arguments → named_head sig binders (text_at text span) ≡ None → RefusesTerm text sig binders Γ tree wanted (Unknown span.start)

@@ -6,6 +6,7 @@ use Rattle.lf_definitions.specs.Substitution.{stays}
 use Rattle.lf_definitions.specs.Typing.{Typing, with_variable}
 use Rattle.lf_definitions.specs.Signatures.{LfSignature, kinds_in}
 use Rattle.file_trees.specs.declared.span.Span.{Span}
+use Rattle.file_trees.specs.declared.span.BinderSpan.{BinderSpan}
 use Rattle.file_trees.specs.Trees.{Tree, Classifier}
 use Rattle.file_trees.specs.Trees as trees
 use Rattle.file_trees.specs.Places.{tree_place}
@@ -16,15 +17,15 @@ use Rattle.elab_terms.specs.declared.elab_fault.ElabFault.TheVariants.{Unknown, 
 
 -- The place of a type is its first brace, or that of the left side of its arrow, or its family's name. Parentheses don't count.
 abbrev pub classifier_place : Classifier → ℕ
-classifier_place (trees.pi span domain rest) = span.start
+classifier_place (trees.pi binder domain rest) = binder.opening
 classifier_place (trees.arrow left right) = classifier_place left
 classifier_place (trees.family span arguments) = span.start
 classifier_place (trees.star span) = span.start
 
 -- one binder of a type, or the left side of an arrow: the place at which it is refused where it is one too many, its type, what stands after it, and what it binds
 pub data IsBinder (text : Text) : Classifier → ℕ → Classifier → Classifier → Option (List ℕ) → Type 0 where
-  pi_binder : (span : Span) (domain rest : Classifier) →
-      IsBinder text (trees.pi span domain rest) span.start domain rest (binder_name text span)
+  pi_binder : (binder : BinderSpan) (domain rest : Classifier) →
+      IsBinder text (trees.pi binder domain rest) binder.opening domain rest (binder_name text binder)
   arrow_binder : (left right : Classifier) → IsBinder text (trees.arrow left right) (classifier_place left) left right None
 
 -- `count` binders of the type stand before.

@@ -1,14 +1,12 @@
 //! The binders of a type as they are written.
 
 ghost use Rattle.std.specs.Prelude.{◌≡◌, option_copied};
-ghost use Rattle.lex_text.specs.Tokens.{TokensOf};
 ghost use Rattle.file_trees.specs.TypeViews.{binding_of};
 ghost use Rattle.elab_terms.specs.ReadBinders.{domain_of, binding_name};
 ghost use Rattle.elab_terms.specs.ReadBinders as prefixes;
-ghost use Rattle.elab_terms.specs.FileTexts.{text_in};
 ghost use Rattle.elab_terms.specs.Types.{classifier_place};
 
-use crate::file_text::{FileText, binder};
+use crate::file_text::text;
 use file_trees::{Binder, Last, TypeTree};
 
 /// The place of a type: its first brace, or that of the left side of its arrow, or its family's name.
@@ -34,7 +32,7 @@ pub fn binding_place(binding: &Binder) -> u32
     ensures { result ≡ prefixes.binding_place (binding_of binding.now) }
 {
     match binding {
-        Binder::Pi(span, _) => span.start,
+        Binder::Pi(binder, _) => binder.opening,
         Binder::Arrow(left) => type_place(left),
     }
 }
@@ -50,12 +48,11 @@ pub fn domain(binding: &Binder) -> &TypeTree
 }
 
 /// The name that a binder binds.
-pub fn bound_name<'a>(source: &FileText<'a>, binding: &Binder) -> Option<&'a [u8]>
-    requires { TokensOf source.now.bytes.now source.now.tokens.now }
-    ensures { option_copied result ≡ binding_name (text_in source.now) (binding_of binding.now) }
+pub fn bound_name<'a>(source: &'a [u8], binding: &Binder) -> Option<&'a [u8]>
+    ensures { option_copied result ≡ binding_name source.now (binding_of binding.now) }
 {
     match binding {
-        Binder::Pi(span, _) => binder(source, *span),
+        Binder::Pi(binder, _) => Some(text(source, binder.name)),
         Binder::Arrow(_) => None,
     }
 }

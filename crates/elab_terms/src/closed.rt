@@ -3,15 +3,12 @@
 ghost use Rattle.std.specs.Prelude.{◌≡◌, [], IfOk, IfErr};
 ghost use Rattle.lf_definitions.specs.Signatures.{kinds_in, typing_in};
 ghost use Rattle.lf_definitions.specs.Typing.{Formed, FormedKind};
-ghost use Rattle.lex_text.specs.Tokens.{TokensOf};
 ghost use Rattle.lf_terms.specs.Types.{type_of};
 ghost use Rattle.elab_terms.specs.KnownTypes.{IsRefusal};
-ghost use Rattle.elab_terms.specs.FileTexts.{text_in};
 ghost use Rattle.elab_terms.specs.Types.{ReadsType, RefusesType, ReadsKind, RefusesKind};
 
 use crate::bound_names::BoundNames;
 use crate::elab_fault::ElabFault;
-use crate::file_text::FileText;
 use crate::read_kind::read_kind;
 use crate::read_type::read_type;
 use crate::reader::Reader;
@@ -23,14 +20,13 @@ use std::alloc::Global;
 /// Reads a type with no variables around it. It is well formed.
 pub fn closed_type(
     alloc: Global,
-    source: &FileText<'_>,
+    source: &[u8],
     sig: &Signature,
     tree: &TypeTree,
 ) -> Result<Ty, ElabFault>
-    requires { TokensOf source.now.bytes.now source.now.tokens.now }
-    ensures read { IfOk result (λ ty. ReadsType (text_in source.now) sig.now [] (typing_in sig.now [] []) 0 tree.now (type_of ty)) }
+    ensures read { IfOk result (λ ty. ReadsType source.now sig.now [] (typing_in sig.now [] []) 0 tree.now (type_of ty)) }
     ensures formed { IfOk result (λ ty. Formed (kinds_in sig.now) (typing_in sig.now [] []) (type_of ty)) }
-    ensures refused { IfErr result (IsRefusal (RefusesType (text_in source.now) sig.now [] (typing_in sig.now [] []) 0 tree.now)) }
+    ensures refused { IfErr result (IsRefusal (RefusesType source.now sig.now [] (typing_in sig.now [] []) 0 tree.now)) }
 {
     sig.is_formed();
     let metas = GoalList::new(alloc);
@@ -50,14 +46,13 @@ pub fn closed_type(
 /// Reads a kind. It is well formed.
 pub fn closed_kind(
     alloc: Global,
-    source: &FileText<'_>,
+    source: &[u8],
     sig: &Signature,
     tree: &TypeTree,
 ) -> Result<Kind, ElabFault>
-    requires { TokensOf source.now.bytes.now source.now.tokens.now }
-    ensures read { IfOk result (λ kind. ReadsKind (text_in source.now) sig.now [] (typing_in sig.now [] []) tree.now kind.binders) }
+    ensures read { IfOk result (λ kind. ReadsKind source.now sig.now [] (typing_in sig.now [] []) tree.now kind.binders) }
     ensures formed { IfOk result (λ kind. FormedKind (kinds_in sig.now) (typing_in sig.now [] []) kind.binders) }
-    ensures refused { IfErr result (IsRefusal (RefusesKind (text_in source.now) sig.now [] (typing_in sig.now [] []) tree.now)) }
+    ensures refused { IfErr result (IsRefusal (RefusesKind source.now sig.now [] (typing_in sig.now [] []) tree.now)) }
 {
     sig.is_formed();
     let metas = GoalList::new(alloc);

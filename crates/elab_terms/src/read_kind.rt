@@ -2,7 +2,6 @@
 
 ghost use Rattle.std.specs.Prelude.{◌≡◌, ℕ, List, [], IfOk, IfErr, OnOk};
 ghost use Rattle.lf_definitions.specs.Typing.{with_context};
-ghost use Rattle.lex_text.specs.Tokens.{TokensOf};
 ghost use Rattle.lf_terms.specs.Types.{types_of};
 ghost use Rattle.file_trees.specs.Trees.{Classifier, bind};
 ghost use Rattle.file_trees.specs.TypeViews.{bindings_of, last_of};
@@ -27,7 +26,6 @@ pub fn read_kind<'a>(
     scope: &'a LocalContext<'a>,
     tree: &'a TypeTree,
 ) -> Result<Kind, ElabFault>
-    requires cut { TokensOf reader.now.source.now.bytes.now reader.now.source.now.tokens.now }
     requires closed { reader.now.metas.now ≡ [] }
     requires known { KnownAt reader.now.sig.now (typing_by reader.now scope.now) names.old }
     ensures read { IfOk result (λ kind. ReadsKind (whole_text reader.now) reader.now.sig.now names.old (typing_by reader.now scope.now) tree.now kind.binders) }
@@ -53,7 +51,6 @@ fn read_kind_rest<'a>(
     prefix: Vec<Ty>,
     tree: &'a TypeTree,
 ) -> Result<Vec<Ty>, ElabFault>
-    requires cut { TokensOf reader.now.source.now.bytes.now reader.now.source.now.tokens.now }
     requires closed { reader.now.metas.now ≡ [] }
     requires known { KnownAt reader.now.sig.now (with_context (types_of prefix.items) (typing_by reader.now scope.now)) names.old }
     ensures read { IfOk result (λ kind. ReadsKindAfter (whole_text reader.now) reader.now.sig.now names.old (typing_by reader.now scope.now) (types_of prefix.items) tree.now (types_of kind.items)) }
@@ -82,7 +79,6 @@ fn read_kind_binders<'a>(
     prefix: Vec<Ty>,
     items: &'a [Binder],
 ) -> Result<Vec<Ty>, ElabFault>
-    requires cut { TokensOf reader.now.source.now.bytes.now reader.now.source.now.tokens.now }
     requires closed { reader.now.metas.now ≡ [] }
     requires known { KnownAt reader.now.sig.now (with_context (types_of prefix.items) (typing_by reader.now scope.now)) names.old }
     ensures read { IfOk result (λ types. OpensKind (whole_text reader.now) reader.now.sig.now names.old names.new (typing_by reader.now scope.now) (types_of prefix.items) (types_of types.items) (bindings_of items.now) []) }
@@ -115,7 +111,6 @@ fn read_kind_last<'a>(
     types: Vec<Ty>,
     last: &'a Last,
 ) -> Result<Vec<Ty>, ElabFault>
-    requires cut { TokensOf reader.now.source.now.bytes.now reader.now.source.now.tokens.now }
     requires closed { reader.now.metas.now ≡ [] }
     requires known { KnownAt reader.now.sig.now (with_context (types_of types.items) (typing_by reader.now scope.now)) names.old }
     ensures read { IfOk result (λ kind. ReadsKindAfter (whole_text reader.now) reader.now.sig.now names.old (typing_by reader.now scope.now) (types_of types.items) (last_of last.now) (types_of kind.items)) }

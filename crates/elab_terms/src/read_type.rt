@@ -2,7 +2,6 @@
 
 ghost use Rattle.std.specs.Prelude.{◌≡◌, ℕ, List, [], IfOk, IfErr, OnOk};
 ghost use Rattle.lf_definitions.specs.Typing.{with_context};
-ghost use Rattle.lex_text.specs.Tokens.{TokensOf};
 ghost use Rattle.lf_terms.specs.Types.{type_of, types_of};
 ghost use Rattle.file_trees.specs.Trees.{Classifier, bind, family};
 ghost use Rattle.file_trees.specs.TypeViews.{bindings_of, last_of};
@@ -29,7 +28,6 @@ pub fn read_type<'a>(
     scope: &'a LocalContext<'a>,
     tree: &'a TypeTree,
 ) -> Result<Ty, ElabFault>
-    requires cut { TokensOf reader.now.source.now.bytes.now reader.now.source.now.tokens.now }
     requires closed { reader.now.metas.now ≡ [] }
     requires known { KnownAt reader.now.sig.now (typing_by reader.now scope.now) names.old }
     ensures read { IfOk result (λ ty. ReadsType (whole_text reader.now) reader.now.sig.now names.old (typing_by reader.now scope.now) 0 tree.now (type_of ty)) }
@@ -52,7 +50,6 @@ fn read_rest<'a>(
     prefix: Vec<Ty>,
     tree: &'a TypeTree,
 ) -> Result<Ty, ElabFault>
-    requires cut { TokensOf reader.now.source.now.bytes.now reader.now.source.now.tokens.now }
     requires closed { reader.now.metas.now ≡ [] }
     requires known { KnownAt reader.now.sig.now (with_context (types_of prefix.items) (typing_by reader.now scope.now)) names.old }
     ensures read { IfOk result (λ ty. ReadsAfter (whole_text reader.now) reader.now.sig.now names.old (typing_by reader.now scope.now) (types_of prefix.items) tree.now (type_of ty)) }
@@ -82,7 +79,6 @@ fn read_binders<'a>(
     prefix: Vec<Ty>,
     items: &'a [Binder],
 ) -> Result<Vec<Ty>, ElabFault>
-    requires cut { TokensOf reader.now.source.now.bytes.now reader.now.source.now.tokens.now }
     requires closed { reader.now.metas.now ≡ [] }
     requires known { KnownAt reader.now.sig.now (with_context (types_of prefix.items) (typing_by reader.now scope.now)) names.old }
     ensures read { IfOk result (λ types. Opens (whole_text reader.now) reader.now.sig.now names.old names.new (typing_by reader.now scope.now) (types_of prefix.items) (types_of types.items) (bindings_of items.now) []) }
@@ -118,7 +114,6 @@ fn read_last<'a>(
     types: Vec<Ty>,
     last: &'a Last,
 ) -> Result<Ty, ElabFault>
-    requires cut { TokensOf reader.now.source.now.bytes.now reader.now.source.now.tokens.now }
     requires closed { reader.now.metas.now ≡ [] }
     requires known { KnownAt reader.now.sig.now (with_context (types_of types.items) (typing_by reader.now scope.now)) names.old }
     ensures read { IfOk result (λ ty. ReadsAfter (whole_text reader.now) reader.now.sig.now names.old (typing_by reader.now scope.now) (types_of types.items) (last_of last.now) (type_of ty)) }
@@ -141,7 +136,6 @@ fn read_atom<'a>(
     span: Span,
     arguments: &'a TermTrees,
 ) -> Result<Ty, ElabFault>
-    requires cut { TokensOf reader.now.source.now.bytes.now reader.now.source.now.tokens.now }
     requires closed { reader.now.metas.now ≡ [] }
     requires known { KnownAt reader.now.sig.now (with_context (types_of types.items) (typing_by reader.now scope.now)) names.old }
     ensures read { IfOk result (λ ty. ReadsAfter (whole_text reader.now) reader.now.sig.now names.old (typing_by reader.now scope.now) (types_of types.items) (family span arguments.now) (type_of ty)) }

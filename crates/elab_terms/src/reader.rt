@@ -1,6 +1,5 @@
 //! What terms, types and kinds are read with.
 
-use crate::file_text::FileText;
 use lf_terms::{GoalList, Signature};
 use std::alloc::Global;
 
@@ -8,7 +7,7 @@ use std::alloc::Global;
 #[derive(Clone, Copy)]
 pub struct Reader<'a> {
     pub alloc: Global,
-    pub source: &'a FileText<'a>,
+    pub source: &'a [u8],
     pub sig: &'a Signature,
     pub metas: &'a GoalList,
 }

@@ -4,7 +4,6 @@ ghost use Rattle.std.specs.Prelude.{◌≡◌, ◌≤◌, List, [], IfOk, IfErr,
 ghost use Rattle.lf_definitions.specs.Syntax.{shapes_of_types, Context};
 ghost use Rattle.lf_definitions.specs.Renaming.{next_by, rename_context};
 ghost use Rattle.lf_definitions.specs.Substitution.{stays};
-ghost use Rattle.lex_text.specs.Tokens.{TokensOf};
 ghost use Rattle.lf_terms.specs.Terms.{term_of, spine_of};
 ghost use Rattle.lf_terms.specs.Types.{type_of};
 ghost use Rattle.file_trees.specs.Trees.{leaf};
@@ -19,11 +18,11 @@ ghost use Rattle.elab_terms.specs.Terms.{ReadsTerm, RefusesTerm, ReadsArguments,
 use crate::applied::{argument, base};
 use crate::bound_names::BoundNames;
 use crate::elab_fault::ElabFault;
-use crate::file_text::{binder, text};
+use crate::file_text::text;
 use crate::head::head_named;
 use crate::reader::Reader;
 use crate::results::{expand, left_type, type_after};
-use file_trees::{Span, TermTree, place};
+use file_trees::{BinderSpan, Span, TermTree, place};
 use lf_kernel::head_type::{HeadType, type_of_head};
 use lf_kernel::local_context::LocalContext;
 use lf_terms::same::same_ty;
@@ -35,7 +34,7 @@ use lf_terms::{Body, Shapes, Term, Ty, Tys};
 #[derive(Clone, Copy)]
 struct Abstraction<'a> {
     tree: &'a TermTree,
-    span: Span,
+    binder: BinderSpan,
     body: &'a TermTree,
 }
 
@@ -48,7 +47,6 @@ pub fn read_term<'a>(
     tree: &'a TermTree,
     wanted: &'a Ty,
 ) -> Result<Term, ElabFault>
-    requires cut { TokensOf reader.now.source.now.bytes.now reader.now.source.now.tokens.now }
     requires closed { reader.now.metas.now ≡ [] }
     requires known { KnownAt reader.now.sig.now (typing_by reader.now scope.now) names.old }
     requires wanted { IsWanted reader.now.sig.now (typing_by reader.now scope.now) (type_of wanted.now) }
@@ -57,10 +55,10 @@ pub fn read_term<'a>(
     ensures names { OnOk result (names.new ≡ names.old) }
 {
     match base(tree) {
-        TermTree::Abs(span, body) => {
+        TermTree::Abs(binder, body) => {
             let abstraction = Abstraction {
                 tree: &*tree,
-                span: *span,
+                binder: *binder,
                 body: body.term(),
             };
             read_abstraction(&*reader, names, &*scope, &abstraction, &*wanted)
@@ -79,21 +77,20 @@ fn read_abstraction<'a>(
     abstraction: &'a Abstraction<'a>,
     wanted: &'a Ty,
 ) -> Result<Term, ElabFault>
-    requires cut { TokensOf reader.now.source.now.bytes.now reader.now.source.now.tokens.now }
     requires closed { reader.now.metas.now ≡ [] }
     requires known { KnownAt reader.now.sig.now (typing_by reader.now scope.now) names.old }
     requires wanted { IsWanted reader.now.sig.now (typing_by reader.now scope.now) (type_of wanted.now) }
-    requires base { base_of (tree_of abstraction.now.tree.now) ≡ trees.abstraction abstraction.now.span (tree_of abstraction.now.body.now) }
+    requires base { base_of (tree_of abstraction.now.tree.now) ≡ trees.abstraction abstraction.now.binder (tree_of abstraction.now.body.now) }
     ensures read { IfOk result (λ t. ReadsTerm (whole_text reader.now) reader.now.sig.now names.old (typing_by reader.now scope.now) (tree_of abstraction.now.tree.now) (type_of wanted.now) (term_of t)) }
     ensures refused { IfErr result (IsRefusal (RefusesTerm (whole_text reader.now) reader.now.sig.now names.old (typing_by reader.now scope.now) (tree_of abstraction.now.tree.now) (type_of wanted.now))) }
     ensures names { OnOk result (names.new ≡ names.old) }
 {
     match argument(abstraction.tree, 0) {
-        Ok(_) => Err(ElabFault::Redex(abstraction.span.start)),
+        Ok(_) => Err(ElabFault::Redex(abstraction.binder.opening)),
         Err(_) => {
             let binders = wanted.binders.as_slice();
             if binders.len() == 0 {
-                return Err(ElabFault::IllTyped(abstraction.span.start));
+                return Err(ElabFault::IllTyped(abstraction.binder.opening));
             }
             let left = left_type(
                 reader.alloc,
@@ -102,7 +99,8 @@ fn read_abstraction<'a>(
                 &wanted.args,
                 1,
             )?;
-            names.push(reader.alloc, binder(reader.source, abstraction.span))?;
+            let name = text(reader.source, abstraction.binder.name);
+            names.push(reader.alloc, Some(name))?;
             let inside = LocalContext::Under(&binders[..1], scope);
             match read_term(reader, names, &inside, abstraction.body, &left) {
                 Err(fault) => Err(fault),
@@ -125,7 +123,6 @@ fn read_application<'a>(
     span: Span,
     wanted: &'a Ty,
 ) -> Result<Term, ElabFault>
-    requires cut { TokensOf reader.now.source.now.bytes.now reader.now.source.now.tokens.now }
     requires closed { reader.now.metas.now ≡ [] }
     requires known { KnownAt reader.now.sig.now (typing_by reader.now scope.now) names.old }
     requires base { base_of (tree_of tree.now) ≡ leaf span }
@@ -172,7 +169,6 @@ pub fn read_arguments<'a>(
     head_type: &'a HeadType<'a>,
     shapes: &'a Shapes,
 ) -> Result<Vec<Term>, ElabFault>
-    requires cut { TokensOf reader.now.source.now.bytes.now reader.now.source.now.tokens.now }
     requires closed { reader.now.metas.now ≡ [] }
     requires known { KnownAt reader.now.sig.now (typing_by reader.now scope.now) names.old }
     requires domains { Domains reader.now.sig.now (typing_by reader.now scope.now) head_type.now.raise head_type.now.binders.now }

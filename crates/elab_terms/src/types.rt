@@ -3,7 +3,6 @@
 ghost use Rattle.std.specs.Prelude.{◌≡◌, ℕ, List, [], IfOk, IfErr, OnOk, length};
 ghost use Rattle.lf_definitions.specs.Syntax.{shapes_of_types};
 ghost use Rattle.lf_definitions.specs.Substitution.{stays};
-ghost use Rattle.lex_text.specs.Tokens.{TokensOf};
 ghost use Rattle.lf_terms.specs.Terms.{spine_of};
 ghost use Rattle.lf_terms.specs.Types.{atom_of};
 ghost use Rattle.file_trees.specs.Trees.{family};
@@ -35,7 +34,6 @@ pub fn read_terms<'a>(
     binders: &'a Tys,
     shapes: &'a Shapes,
 ) -> Result<Vec<Term>, ElabFault>
-    requires cut { TokensOf reader.now.source.now.bytes.now reader.now.source.now.tokens.now }
     requires closed { reader.now.metas.now ≡ [] }
     requires known { KnownAt reader.now.sig.now (typing_by reader.now scope.now) names.old }
     requires domains { Domains reader.now.sig.now (typing_by reader.now scope.now) 0 binders.now }
@@ -66,7 +64,6 @@ pub fn read_family<'a>(
     span: Span,
     arguments: &'a TermTrees,
 ) -> Result<Atom, ElabFault>
-    requires cut { TokensOf reader.now.source.now.bytes.now reader.now.source.now.tokens.now }
     requires closed { reader.now.metas.now ≡ [] }
     requires known { KnownAt reader.now.sig.now (typing_by reader.now scope.now) names.old }
     ensures read { IfOk result (λ atom. (count : ℕ) → ReadsType (whole_text reader.now) reader.now.sig.now names.old (typing_by reader.now scope.now) count (family span arguments.now) (atom_of atom)) }

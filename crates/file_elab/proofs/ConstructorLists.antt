@@ -32,6 +32,13 @@ known past (Some number) less = refl
 constant_of : (sig : LfSignature) (f constant : ℕ) → HasFamily sig f constant → constant < length (constant_names sig)
 constant_of sig f constant has = omega (arith, slice_get_within (constant_types sig) constant has.type has.type_is, length-constant_names sig)
 
+-- A book that refuses a list is as it was.
+pub book_kept : (sig : LfSignature) (old new : Book) (f : ℕ) (constants : List ℕ) (fault : CtorFault) → AddsList sig old f constants (Err fault) new → new ≡ old
+book_kept sig old new f constants Taken adds = adds.1
+book_kept sig old new f constants (Repeated place) adds = adds.1
+book_kept sig old new f constants (Other place) adds = adds.1
+book_kept sig old new f constants (NoMemory kept) adds = adds.1
+
 -- The numbers of the names before a place.
 module _ (text : Text) (sig : LfSignature) where
   abbrev number : Span → ℕ

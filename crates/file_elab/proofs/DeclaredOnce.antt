@@ -1,11 +1,11 @@
 -- What declarations make of a program is one.
-use Rattle.std.proofs.Common.{◌≡◌, ℕ, Option, ℤ, pos, List, [], ◌∷◌, ◌++◌, refl, sym, ap, ap₂, ◌∙◌, subst}
+use Rattle.std.proofs.Common.{◌≡◌, ℕ, ℤ, pos, List, [], ◌∷◌, ◌++◌, refl, sym, ap, ap₂, ◌∙◌, subst}
 use Rattle.lf_definitions.specs.Signatures.{LfSignature, family_entry, constant_entry}
 use Rattle.lf_definitions.proofs.Options.{Some_inj}
 use Rattle.file_trees.specs.declared.span.Span.{Span}
 use Rattle.file_trees.specs.declared.decl_tree.DeclTree.{DeclTree}
+use Rattle.file_trees.specs.declared.decl_tree.RuleTree.{RuleTree}
 use Rattle.file_trees.specs.declared.decl_tree.PhaseWord.{PhaseWord}
-use Rattle.file_trees.specs.declared.decl_tree.BuildWord.{BuildWord}
 use Rattle.rule_sets.specs.declared.rule.Phase.{Phase}
 use Rattle.rule_sets.specs.declared.rule.Builder.{Builder}
 use Rattle.rule_sets.specs.declared.rule.Builder.TheVariants.{Apply, Constructors, Cases, Forward, Destruct, Assumption, Hyps}
@@ -46,14 +46,13 @@ same_rule : (first second : Rule) → first.name ≡ second.name → first.set �
     first.subject ≡ second.subject → first.major ≡ second.major → first ≡ second
 same_rule first second name set phase builder subject major = same_parts name set phase builder subject major
 
-pub one_rule : {text : Text} {sig : LfSignature} {book : Book} {name number subject : Span} {phase : PhaseWord} {builder : BuildWord} {major set : Option Span} {rule other : Rule} →
-    ReadsRule text sig book name phase number builder subject major set rule → ReadsRule text sig book name phase number builder subject major set other → rule ≡ other
-one_rule {text = text} {sig = sig} {builder = builder} {major = major} {rule = rule} {other = other} first second =
+pub one_rule : {text : Text} {sig : LfSignature} {book : Book} {parts : RuleTree} {rule other : Rule} → ReadsRule text sig book parts rule → ReadsRule text sig book parts other → rule ≡ other
+one_rule {text = text} {sig = sig} {parts = parts} {rule = rule} {other = other} first second =
     let subject_is = Some_inj second.subject_is first.subject_is in
     same_rule rule other (first.name_is ∙ sym second.name_is) (first.set_is ∙ sym second.set_is) (same_phase first.phase_is second.phase_is)
     (first.builder_is ∙ sym second.builder_is) (sym subject_is)
-    (same_major sig (builder_of builder) rule.subject (major_value text major) rule.major other.major first.major_is
-    (subst (λ s. IsMajorNumber sig (builder_of builder) s (major_value text major) other.major) subject_is second.major_is))
+    (same_major sig (builder_of parts.builder) rule.subject (major_value text parts.major) rule.major other.major first.major_is
+    (subst (λ s. IsMajorNumber sig (builder_of parts.builder) s (major_value text parts.major) other.major) subject_is second.major_is))
 
 pub same_numbers : {text : Text} {sig : LfSignature} {spans : List Span} {constants others : List ℕ} → AreNumbers text sig spans constants → AreNumbers text sig spans others → constants ≡ others
 same_numbers no_number no_number = refl
@@ -64,9 +63,9 @@ one_declared {text = text} {old = old} (declares_family name tree kind may read)
     ap (λ k. record { signature = old.signature ++ family_entry (text_at text name) k ∷ []; book = old.book; theorems = old.theorems }) (unique_read_kind read reads)
 one_declared {text = text} {old = old} (declares_constant name tree type may read) (declares_constant _ _ found _ reads) =
     ap (λ a. record { signature = old.signature ++ constant_entry (text_at text name) a ∷ []; book = old.book; theorems = old.theorems }) (unique_read_type read reads)
-one_declared {text = text} {old = old} (declares_theorem name tree type may read) (declares_theorem _ _ found _ reads) =
-    ap (λ a. record { signature = old.signature; book = old.book; theorems = old.theorems ++ record { name = text_at text name; type = a } ∷ [] }) (unique_read_type read reads)
-one_declared {old = old} (declares_rule name number subject phase builder major set rule may read) (declares_rule _ _ _ _ _ _ _ found _ reads) =
+one_declared {text = text} {old = old} (declares_theorem tree type may read) (declares_theorem _ found _ reads) =
+    ap (λ a. record { signature = old.signature; book = old.book; theorems = old.theorems ++ record { name = text_at text tree.name; type = a } ∷ [] }) (unique_read_type read reads)
+one_declared {old = old} (declares_rule parts rule may read) (declares_rule _ found _ reads) =
     ap (λ r. record { signature = old.signature; book = record { rules = old.book.rules ++ r ∷ []; lists = old.book.lists }; theorems = old.theorems }) (one_rule read reads)
 one_declared {old = old} (declares_constructors name spans f constants known none are fit) (declares_constructors _ _ g others same _ more _) =
     ap₂ (λ n cs. record { signature = old.signature; book = record { rules = old.book.rules; lists = old.book.lists ++ record { of_family = n; constants = cs } ∷ [] }; theorems = old.theorems })

@@ -1,13 +1,13 @@
 -- A declaration that makes a program is refused for no fault, and one that is refused is so for one fault.
-use Rattle.std.proofs.Common.{◌≡◌, ℕ, Option, Some, None, ◌⊎◌, inl, inr, List, [], ◌∷◌, ◌++◌, length, take, Contains, slice_get, refl, sym, ap, ap₂, ◌∙◌, subst, subst₂, arith}
+use Rattle.std.proofs.Common.{◌≡◌, ℕ, Some, None, ◌⊎◌, inl, inr, List, [], ◌∷◌, ◌++◌, length, take, Contains, slice_get, refl, sym, ap, ap₂, ◌∙◌, subst, subst₂, arith}
 use Rattle.basics.specs.Places.{place_of}
 use Rattle.lf_definitions.specs.Signatures.{LfSignature, names_of, family_names, constant_names, typing_in}
 use Rattle.lf_definitions.proofs.Options.{None-Some, Some_inj}
 use Rattle.file_trees.specs.declared.span.Span.{Span}
 use Rattle.file_trees.specs.declared.decl_tree.DeclTree.{DeclTree}
 use Rattle.file_trees.specs.declared.decl_tree.DeclTree.TheVariants.{Family, Const, Theorem, Rule as rule_tree, Ctors}
-use Rattle.file_trees.specs.declared.decl_tree.PhaseWord.{PhaseWord}
-use Rattle.file_trees.specs.declared.decl_tree.BuildWord.{BuildWord}
+use Rattle.file_trees.specs.declared.decl_tree.TheoremTree.{TheoremTree}
+use Rattle.file_trees.specs.declared.decl_tree.RuleTree.{RuleTree}
 use Rattle.file_trees.specs.Trees.{Classifier}
 use Rattle.rule_sets.specs.declared.rule.Rule.{Rule}
 use Rattle.rule_sets.specs.Books.{Book, list_of}
@@ -61,29 +61,28 @@ constant_fault : {text : Text} {old : LfProgram} {name : Span} {tree : Classifie
 constant_fault (refuses_constant_name name tree fault refused) = inl refused
 constant_fault (refuses_constant_type name tree fault may refused) = inr (may, refused)
 
-theorem_fault : {text : Text} {old : LfProgram} {name : Span} {tree : Classifier} {fault : ElabFault} → Refuses text old (Theorem name tree) fault →
-    NamedFault (theorem_names old) most_theorems text name (RefusesType text old.signature [] (typing_in old.signature [] []) 0 tree) fault
-theorem_fault (refuses_theorem_name name tree fault refused) = inl refused
-theorem_fault (refuses_theorem_type name tree fault may refused) = inr (may, refused)
+theorem_fault : {text : Text} {old : LfProgram} {tree : TheoremTree} {fault : ElabFault} → Refuses text old (Theorem tree) fault →
+    NamedFault (theorem_names old) most_theorems text tree.name (RefusesType text old.signature [] (typing_in old.signature [] []) 0 tree.statement) fault
+theorem_fault (refuses_theorem_name tree fault refused) = inl refused
+theorem_fault (refuses_theorem_type tree fault may refused) = inr (may, refused)
 
-rule_fault : {text : Text} {old : LfProgram} {name number subject : Span} {phase : PhaseWord} {builder : BuildWord} {major set : Option Span} {fault : ElabFault} →
-    Refuses text old (rule_tree name phase number builder subject major set) fault →
-    NamedFault (rule_names old) most_rules text name (RefusesRule text old.signature old.book phase number builder subject major) fault
-rule_fault (refuses_rule_name name number subject phase builder major set fault refused) = inl refused
-rule_fault (refuses_rule_part name number subject phase builder major set fault may refused) = inr (may, refused)
+rule_fault : {text : Text} {old : LfProgram} {parts : RuleTree} {fault : ElabFault} → Refuses text old (rule_tree parts) fault →
+    NamedFault (rule_names old) most_rules text parts.name (RefusesRule text old.signature old.book parts) fault
+rule_fault (refuses_rule_name parts fault refused) = inl refused
+rule_fault (refuses_rule_part parts fault may refused) = inr (may, refused)
 
 -- A rule that is read has no fault, and a fault of a rule is one.
-rule_not_refused : {text : Text} {sig : LfSignature} {book : Book} {name number subject : Span} {phase : PhaseWord} {builder : BuildWord} {major set : Option Span} {rule : Rule} {fault : ElabFault} →
-    ReadsRule text sig book name phase number builder subject major set rule → RefusesRule text sig book phase number builder subject major fault → ⊥
+rule_not_refused : {text : Text} {sig : LfSignature} {book : Book} {parts : RuleTree} {rule : Rule} {fault : ElabFault} →
+    ReadsRule text sig book parts rule → RefusesRule text sig book parts fault → ⊥
 rule_not_refused {rule = rule} read (refuses_number none) = none (rule.phase, read.phase_is)
 rule_not_refused read (refuses_subject has none) = None-Some none read.subject_is
-rule_not_refused {text = text} {sig = sig} {builder = builder} {major = major} {rule = rule} read (refuses_major found has known none) =
-    none (subst (λ s. HasMajorPlace sig (builder_of builder) s (major_value text major)) (Some_inj read.subject_is known) (rule.major, read.major_is))
-rule_not_refused {sig = sig} {builder = builder} read (refuses_premises found has known one bad) =
-    read.premises_are (subst (HasBadPremises sig (builder_of builder)) (Some_inj known read.subject_is) bad)
+rule_not_refused {text = text} {sig = sig} {parts = parts} {rule = rule} read (refuses_major found has known none) =
+    none (subst (λ s. HasMajorPlace sig (builder_of parts.builder) s (major_value text parts.major)) (Some_inj read.subject_is known) (rule.major, read.major_is))
+rule_not_refused {sig = sig} {parts = parts} read (refuses_premises found has known one bad) =
+    read.premises_are (subst (HasBadPremises sig (builder_of parts.builder)) (Some_inj known read.subject_is) bad)
 
-one_fault_of_rule : {text : Text} {sig : LfSignature} {book : Book} {number subject : Span} {phase : PhaseWord} {builder : BuildWord} {major : Option Span} {fault other : ElabFault} →
-    RefusesRule text sig book phase number builder subject major fault → RefusesRule text sig book phase number builder subject major other → fault ≡ other
+one_fault_of_rule : {text : Text} {sig : LfSignature} {book : Book} {parts : RuleTree} {fault other : ElabFault} →
+    RefusesRule text sig book parts fault → RefusesRule text sig book parts other → fault ≡ other
 one_fault_of_rule (refuses_number none) (refuses_number nothing) = refl
 one_fault_of_rule (refuses_number none) (refuses_subject has unknown) = absurd (none has)
 one_fault_of_rule (refuses_number none) (refuses_major found has known without) = absurd (none has)
@@ -95,12 +94,12 @@ one_fault_of_rule (refuses_subject has unknown) (refuses_premises found again kn
 one_fault_of_rule (refuses_major found has known without) (refuses_number none) = absurd (none has)
 one_fault_of_rule (refuses_major found has known without) (refuses_subject again unknown) = absurd (None-Some unknown known)
 one_fault_of_rule (refuses_major found has known without) (refuses_major other again same none) = refl
-one_fault_of_rule {text = text} {sig = sig} {builder = builder} {major = major} (refuses_major found has known without) (refuses_premises other again same one bad) =
-    absurd (without (subst (λ s. HasMajorPlace sig (builder_of builder) s (major_value text major)) (Some_inj same known) one))
+one_fault_of_rule {text = text} {sig = sig} {parts = parts} (refuses_major found has known without) (refuses_premises other again same one bad) =
+    absurd (without (subst (λ s. HasMajorPlace sig (builder_of parts.builder) s (major_value text parts.major)) (Some_inj same known) one))
 one_fault_of_rule (refuses_premises found has known one bad) (refuses_number none) = absurd (none has)
 one_fault_of_rule (refuses_premises found has known one bad) (refuses_subject again unknown) = absurd (None-Some unknown known)
-one_fault_of_rule {text = text} {sig = sig} {builder = builder} {major = major} (refuses_premises found has known one bad) (refuses_major other again same without) =
-    absurd (without (subst (λ s. HasMajorPlace sig (builder_of builder) s (major_value text major)) (Some_inj known same) one))
+one_fault_of_rule {text = text} {sig = sig} {parts = parts} (refuses_premises found has known one bad) (refuses_major other again same without) =
+    absurd (without (subst (λ s. HasMajorPlace sig (builder_of parts.builder) s (major_value text parts.major)) (Some_inj known same) one))
 one_fault_of_rule (refuses_premises found has known one bad) (refuses_premises other again same more wrong) = refl
 
 -- Of two ways to take an entry out of a list, they are one, or the entry of one stands in prefix of that of the other.
@@ -243,10 +242,10 @@ declared_not_refused {text = text} {old = old} (declares_family name tree kind m
     named_not_refused (RefusesKind text old.signature [] (typing_in old.signature [] []) tree) may (λ wrong. read_kind_not_refused read wrong) (family_fault refused)
 declared_not_refused {text = text} {old = old} (declares_constant name tree type may read) refused =
     named_not_refused (RefusesType text old.signature [] (typing_in old.signature [] []) 0 tree) may (λ wrong. read_type_not_refused read wrong) (constant_fault refused)
-declared_not_refused {text = text} {old = old} (declares_theorem name tree type may read) refused =
-    named_not_refused (RefusesType text old.signature [] (typing_in old.signature [] []) 0 tree) may (λ wrong. read_type_not_refused read wrong) (theorem_fault refused)
-declared_not_refused {text = text} {old = old} (declares_rule name number subject phase builder major set rule may read) refused =
-    named_not_refused (RefusesRule text old.signature old.book phase number builder subject major) may (λ wrong. rule_not_refused read wrong) (rule_fault refused)
+declared_not_refused {text = text} {old = old} (declares_theorem tree type may read) refused =
+    named_not_refused (RefusesType text old.signature [] (typing_in old.signature [] []) 0 tree.statement) may (λ wrong. read_type_not_refused read wrong) (theorem_fault refused)
+declared_not_refused {text = text} {old = old} (declares_rule parts rule may read) refused =
+    named_not_refused (RefusesRule text old.signature old.book parts) may (λ wrong. rule_not_refused read wrong) (rule_fault refused)
 declared_not_refused (declares_constructors name spans f constants known none are fit) refused = list_not_refused known none are fit (list_fault refused)
 
 pub one_fault_of_declaration : {text : Text} {old : LfProgram} {fault other : ElabFault} (declaration : DeclTree) → Refuses text old declaration fault → Refuses text old declaration other → fault ≡ other
@@ -254,8 +253,8 @@ one_fault_of_declaration {text = text} {old = old} (Family name tree) refused wr
     one_named_fault (RefusesKind text old.signature [] (typing_in old.signature [] []) tree) (λ first second. one_fault_of_kind first second) (family_fault refused) (family_fault wrong)
 one_fault_of_declaration {text = text} {old = old} (Const name tree) refused wrong =
     one_named_fault (RefusesType text old.signature [] (typing_in old.signature [] []) 0 tree) (λ first second. one_fault_of_type first second) (constant_fault refused) (constant_fault wrong)
-one_fault_of_declaration {text = text} {old = old} (Theorem name tree) refused wrong =
-    one_named_fault (RefusesType text old.signature [] (typing_in old.signature [] []) 0 tree) (λ first second. one_fault_of_type first second) (theorem_fault refused) (theorem_fault wrong)
-one_fault_of_declaration {text = text} {old = old} (rule_tree name phase number builder subject major set) refused wrong =
-    one_named_fault (RefusesRule text old.signature old.book phase number builder subject major) (λ first second. one_fault_of_rule first second) (rule_fault refused) (rule_fault wrong)
+one_fault_of_declaration {text = text} {old = old} (Theorem tree) refused wrong =
+    one_named_fault (RefusesType text old.signature [] (typing_in old.signature [] []) 0 tree.statement) (λ first second. one_fault_of_type first second) (theorem_fault refused) (theorem_fault wrong)
+one_fault_of_declaration {text = text} {old = old} (rule_tree parts) refused wrong =
+    one_named_fault (RefusesRule text old.signature old.book parts) (λ first second. one_fault_of_rule first second) (rule_fault refused) (rule_fault wrong)
 one_fault_of_declaration (Ctors name spans) refused wrong = one_list_fault (list_fault refused) (list_fault wrong)

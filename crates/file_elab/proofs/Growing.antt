@@ -8,8 +8,6 @@ use Rattle.lf_definitions.proofs.TypingLaws.{signatures_grow}
 use Rattle.rule_sets.specs.Books.{Book, first_book}
 use Rattle.rule_sets.specs.Refusals.{IsOver}
 use Rattle.rule_sets.proofs.Over.{stays_over}
-use Rattle.lex_text.specs.declared.token.Token.{Token}
-use Rattle.lex_text.specs.Tokens.{TokensOf}
 use Rattle.file_trees.specs.declared.decl_tree.DeclTree.{DeclTree}
 use Rattle.elab_terms.specs.Names.{Text, text_at}
 use Rattle.elab_terms.specs.declared.elab_fault.ElabFault.{ElabFault}
@@ -26,8 +24,8 @@ record Grown (old new : LfSignature) : Type 0 where
 grown : {text : Text} {old new : LfProgram} {declaration : DeclTree} → Declares text old declaration new → Grown old.signature new.signature
 grown {text = text} (declares_family name tree kind may reads) = record { more = family_entry (text_at text name) kind ∷ []; new_is = refl }
 grown {text = text} (declares_constant name tree type may reads) = record { more = constant_entry (text_at text name) type ∷ []; new_is = refl }
-grown {old = old} (declares_theorem name tree type may reads) = record { more = []; new_is = append-nil old.signature }
-grown {old = old} (declares_rule name number subject phase builder major set rule may reads) = record { more = []; new_is = append-nil old.signature }
+grown {old = old} (declares_theorem tree type may reads) = record { more = []; new_is = append-nil old.signature }
+grown {old = old} (declares_rule parts rule may reads) = record { more = []; new_is = append-nil old.signature }
 grown {old = old} (declares_constructors name spans f constants found none numbers are) = record { more = []; new_is = append-nil old.signature }
 
 formed_over_more : (sig more : LfSignature) (theorems : List LfTheorem) → AreFormed sig theorems → AreFormed (sig ++ more) theorems
@@ -64,13 +62,10 @@ declares_last (declares_next old between new first rest declared others) declara
     declares_next old between next first (rest ++ declaration ∷ []) declared (declares_last others declaration next last)
 
 -- or a refusal there
-pub refused_at : (bytes : List ℕ) (tokens : List Token) → TokensOf bytes tokens → (declarations : List DeclTree) (i : ℕ) (declaration : DeclTree) →
-    i < length declarations → declaration ≡ get_or declarations i declaration → (program : LfProgram) →
-    DeclaresAll (record { bytes = bytes; tokens = tokens }) first_program (take i declarations) program →
-    (fault : ElabFault) → Refuses (record { bytes = bytes; tokens = tokens }) program declaration fault → IsRefused bytes declarations fault
-refused_at bytes tokens cut declarations i declaration within is program declared fault refused = record {
-  tokens = tokens;
-  cut = cut;
+pub refused_at : (text : Text) (declarations : List DeclTree) (i : ℕ) (declaration : DeclTree) → i < length declarations → declaration ≡ get_or declarations i declaration →
+    (program : LfProgram) → DeclaresAll text first_program (take i declarations) program → (fault : ElabFault) → Refuses text program declaration fault →
+    IsRefused text declarations fault
+refused_at text declarations i declaration within is program declared fault refused = record {
   prefix = take i declarations;
   declaration = declaration;
   rest = drop (i + 1) declarations;

@@ -8,6 +8,7 @@ use Rattle.std.proofs.lemmas.Bool.Decides.{nat_tests}
 use Rattle.std.proofs.lemmas.Slice.Eq.{bytes_eq-Decides}
 use Rattle.std.proofs.lemmas.Str.{encode_ascii}
 use Rattle.std.specs.Str.{bytes_eq}
+use Rattle.basics.specs.Limits.{longest_name}
 use Rattle.unicode_ident.proofs.IdentLemmas.{is_xid_start-ascii, is_xid_continue-ascii}
 use Rattle.lex_text.specs.Characters.{MayStart, MayContinue}
 use Rattle.lex_text.proofs.Utf8.{both_true}
@@ -46,7 +47,7 @@ letters_encoded (c ∷ cs) all =
     let bounds = letter_bounds c all.0 in
     ap (λ prefix. prefix ++ encode_utf8_all cs) (encode_ascii c (omega (arith, bounds))) ∙ ap (λ rest. c ∷ rest) (letters_encoded cs all.1)
 
-pub letters_name : (c : ℕ) (cs : List ℕ) → list_all is_ascii_lowercase (c ∷ cs) ≡ true → length (c ∷ cs) ≤ 255 → bytes_eq (c ∷ cs) (codes "type") ≡ false → IsGrammarName (c ∷ cs)
+pub letters_name : (c : ℕ) (cs : List ℕ) → list_all is_ascii_lowercase (c ∷ cs) ≡ true → length (c ∷ cs) ≤ longest_name → bytes_eq (c ∷ cs) (codes "type") ≡ false → IsGrammarName (c ∷ cs)
 letters_name c cs letters short other =
     let all = are_letters (c ∷ cs) letters in
     record {

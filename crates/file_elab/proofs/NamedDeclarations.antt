@@ -17,15 +17,15 @@ SetWithin P (Some span) = P span
 abbrev pub NamesWithin : (Span → Type 0) → DeclTree → Type 0
 NamesWithin P (Family named tree) = P named
 NamesWithin P (Const named tree) = P named
-NamesWithin P (Theorem named tree) = P named
-NamesWithin P (Rule named phase number builder subject major set) = P named × SetWithin P set
+NamesWithin P (Theorem tree) = P tree.name
+NamesWithin P (Rule parts) = P parts.name × SetWithin P parts.set
 NamesWithin P (Ctors named spans) = Unit {0}
 
 -- What is true of all terminals is true of those after a part of the file.
 module _ (Q : Terminal → Type 0) where
   mutual
     after_term : {terminals rest : List Terminal} {tree : Tree} → IsTerm terminals rest tree → AllByRecursion Q terminals → AllByRecursion Q rest
-    after_term (abstracts opening closing bound inside rest body is h) all = after_term h all.1.1.1
+    after_term (abstracts opening closing named bound inside rest body is h) all = after_term h all.1.1.1
     after_term (applies terminals after rest tree arguments h hs) all = after_arguments hs (after_argument h all)
 
     after_argument : {terminals rest : List Terminal} {tree : Tree} → IsArgument terminals rest tree → AllByRecursion Q terminals → AllByRecursion Q rest
@@ -39,7 +39,7 @@ module _ (Q : Terminal → Type 0) where
 
   mutual
     after_type : {terminals rest : List Terminal} {tree : Classifier} → IsType terminals rest tree → AllByRecursion Q terminals → AllByRecursion Q rest
-    after_type (binds opening colon closing bound inside after rest domain body is h k) all = after_type k (after_type h all.1.1.1).1
+    after_type (binds opening colon closing named bound inside after rest domain body is h k) all = after_type k (after_type h all.1.1.1).1
     after_type (ends terminals rest last h) all = after_simple h all
     after_type (goes_to terminals after rest span left right h k) all = after_type k (after_simple h all).1
 
@@ -49,7 +49,7 @@ module _ (Q : Terminal → Type 0) where
 
   after_kind : {terminals rest : List Terminal} {tree : Classifier} → IsKind terminals rest tree → AllByRecursion Q terminals → AllByRecursion Q rest
   after_kind (is_type span rest) all = all.1
-  after_kind (kind_binds opening colon closing bound inside after rest domain body is h k) all = after_kind k (after_type h all.1.1.1).1
+  after_kind (kind_binds opening colon closing named bound inside after rest domain body is h k) all = after_kind k (after_type h all.1.1.1).1
   after_kind (kind_goes_to terminals after rest span left right h k) all = after_kind k (after_simple h all).1
 
   after_major : {terminals rest : List Terminal} {major : Option Span} → IsMajorPart terminals rest major → AllByRecursion Q terminals → AllByRecursion Q rest

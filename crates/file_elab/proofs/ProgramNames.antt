@@ -40,7 +40,7 @@ one_more_named f xs x all named = subst (All IsGrammarName) (sym (map-append f x
 
 module _ (text : Text) where
   abbrev IsNamed : Span → Type 0
-  IsNamed span = IsNameAt text.bytes span
+  IsNamed span = IsNameAt text span
 
   set_named : (set : Option Span) → SetWithin IsNamed set → IsGrammarName (set_of text set)
   set_named None named = default_named
@@ -60,16 +60,16 @@ module _ (text : Text) where
     sets = has.sets;
     theorems = has.theorems;
   }
-  declared_named {old = old} (declares_theorem name tree type may reads) named has = record {
+  declared_named {old = old} (declares_theorem tree type may reads) named has = record {
     symbols = has.symbols;
     rules = has.rules;
     sets = has.sets;
     theorems = one_more_named (λ theorem. theorem.name) old.theorems _ has.theorems named;
   }
-  declared_named {old = old} (declares_rule name number subject phase builder major set rule may reads) named has = record {
+  declared_named {old = old} (declares_rule parts rule may reads) named has = record {
     symbols = has.symbols;
     rules = one_more_named (λ rule. rule.name) old.book.rules rule has.rules (subst IsGrammarName (sym reads.name_is) named.0);
-    sets = one_more_named (λ rule. rule.set) old.book.rules rule has.sets (subst IsGrammarName (sym reads.set_is) (set_named set named.1));
+    sets = one_more_named (λ rule. rule.set) old.book.rules rule has.sets (subst IsGrammarName (sym reads.set_is) (set_named parts.set named.1));
     theorems = has.theorems;
   }
   declared_named (declares_constructors name spans f constants is none numbers constructors) named has =
@@ -81,5 +81,5 @@ module _ (text : Text) where
   all_declared_named (declares_next old between new declaration declarations h hs) named has = all_declared_named hs named.1 (declared_named h named.0 has)
 
 pub program_named : (bytes : List ℕ) (declarations : List DeclTree) (program : LfProgram) → IsParsedFrom bytes declarations → IsProgram bytes declarations program → HasGrammarNames program
-program_named bytes declarations program (tokens, cut, parsed) (others, cut_again, declared) =
-    all_declared_named (record { bytes = bytes; tokens = others }) declared (file_within (IsNameAt bytes) parsed.file (words_are_names bytes tokens cut)) first_named
+program_named bytes declarations program (tokens, cut, parsed) declared =
+    all_declared_named bytes declared (file_within (IsNameAt bytes) parsed.file (words_are_names bytes tokens cut)) first_named

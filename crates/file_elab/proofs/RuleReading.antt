@@ -10,6 +10,8 @@ use Rattle.basics.specs.Limits.{most_rules}
 use Rattle.basics.specs.Places.{place_of}
 use Rattle.basics.proofs.NamePlaces.{place_found}
 use Rattle.basics.proofs.Membership.{not_contained, new_name}
+use Rattle.file_trees.specs.declared.decl_tree.DeclTree.TheVariants.{Rule as rule_tree}
+use Rattle.file_trees.specs.declared.decl_tree.RuleTree.{RuleTree}
 use Rattle.file_trees.specs.declared.decl_tree.PhaseWord.{PhaseWord}
 use Rattle.file_trees.specs.declared.decl_tree.PhaseWord.TheVariants as phase_words
 use Rattle.file_trees.specs.declared.decl_tree.BuildWord.{BuildWord}
@@ -26,11 +28,10 @@ use Rattle.rule_sets.specs.Refusals.{IsTaken, IsFull, IsNoPercent, HasNoSubject,
 use Rattle.rule_sets.proofs.FittingRules.{unlisted_past}
 use Rattle.elab_terms.specs.KnownTypes.{IsRefusal}
 use Rattle.elab_terms.specs.Names.{Text, text_at}
-use Rattle.file_elab.specs.declared.rule_parts.RuleParts.{RuleParts}
 use Rattle.file_elab.specs.Programs.{MayBeNamed, Declares, declares_rule, refuses_taken, refuses_many, refuses_rule_name, refuses_rule_part}
 use Rattle.file_elab.specs.ProgramParts.{program_with, DeclaresInBook, RefusesInBook}
 use Rattle.file_elab.specs.Rules.{number_value, ReadsPhase, reads_norm, reads_safe, reads_unsafe, HasPhase, builder_of, family_if, listed_family, subject_of, major_value, IsMajorNumber, HasMajorPlace, ReadsRule, refuses_number, refuses_subject, refuses_major, refuses_premises}
-use Rattle.file_elab.specs.ReadRules.{names_in, declaration_of, IsPhaseFor, IsSubjectFor, IsMajorFor, IsReadRule, refused_as}
+use Rattle.file_elab.specs.ReadRules.{names_in, IsPhaseFor, IsSubjectFor, IsMajorFor, IsReadRule, refused_as}
 use Rattle.file_elab.proofs.MajorArguments.{major_number, no_major_number}
 
 -- A number that is no penalty, and one that is no percentage.
@@ -123,8 +124,18 @@ module _ (sig : LfSignature) (book : Book) (name : List ℕ) where
   pub no_family_read : (f : ℕ) → IsOver sig book → place_of (family_names sig) name ≡ None → f ≡ length (family_kinds sig) → IsSubjectFor sig book Constructors name f
   no_family_read f over none is = inr (ap (listed_family book) none, unlisted_past sig book f over (omega (arith, is)))
 
+-- A book that refuses a rule is as it was.
+pub book_kept : (sig : LfSignature) (old new : Book) (rule : Rule) (fault : RuleFault) → AddsRule sig old rule (Err fault) new → new ≡ old
+book_kept sig old new rule Taken adds = adds.1
+book_kept sig old new rule Full adds = adds.1
+book_kept sig old new rule Percent adds = adds.1
+book_kept sig old new rule NoConst adds = adds.1
+book_kept sig old new rule BadMajor adds = adds.1
+book_kept sig old new rule Premises adds = adds.1
+book_kept sig old new rule (NoMemory kept) adds = adds.1
+
 -- What the book says of a rule that was read.
-module _ (text : Text) (sig : LfSignature) (old : Book) (parts : RuleParts) (rule : Rule) (read : IsReadRule text sig old parts rule) where
+module _ (text : Text) (sig : LfSignature) (old : Book) (parts : RuleTree) (rule : Rule) (read : IsReadRule text sig old parts rule) where
   abbrev names : List (List ℕ)
   names = names_in old
 
@@ -188,7 +199,7 @@ module _ (text : Text) (sig : LfSignature) (old : Book) (parts : RuleParts) (rul
       ]
 
   abbrev Refused : RuleFault → Type 0
-  Refused fault = IsRefusal (RefusesInBook text sig old (declaration_of parts)) (refused_as parts fault)
+  Refused fault = IsRefusal (RefusesInBook text sig old (rule_tree parts)) (refused_as parts fault)
 
   pub rule_refused : (new_book : Book) (fault : RuleFault) → AddsRule sig old rule (Err fault) new_book → Refused fault
   rule_refused new_book (NoMemory kept) adds = tt
@@ -197,39 +208,39 @@ module _ (text : Text) (sig : LfSignature) (old : Book) (parts : RuleParts) (rul
       by : IsFirstFault sig old rule Taken → Refused Taken
       by (taken has) theorems =
           let P : List ℕ → Type 0 = Contains names in
-          refuses_rule_name parts.name parts.number parts.subject parts.phase parts.builder parts.major parts.set _
+          refuses_rule_name parts _
           (refuses_taken (λ none. not_contained names (text_at text parts.name) none (subst P read.name_is has)))
   rule_refused new_book Full adds = by adds.0
     where
       by : IsFirstFault sig old rule Full → Refused Full
       by (full free many) theorems =
-          refuses_rule_name parts.name parts.number parts.subject parts.phase parts.builder parts.major parts.set _
+          refuses_rule_name parts _
           (refuses_many (new free) (omega (arith, many, names_in_count old)))
   rule_refused new_book Percent adds = by adds.0
     where
       by : IsFirstFault sig old rule Percent → Refused Percent
       by (percent free room bad) theorems =
-          refuses_rule_part parts.name parts.number parts.subject parts.phase parts.builder parts.major parts.set _ (may_be_named free room) (refuses_number (no_phase bad))
+          refuses_rule_part parts _ (may_be_named free room) (refuses_number (no_phase bad))
   rule_refused new_book NoConst adds = by adds.0
     where
       by : IsFirstFault sig old rule NoConst → Refused NoConst
       by (no_constant free room good bad) theorems =
-          refuses_rule_part parts.name parts.number parts.subject parts.phase parts.builder parts.major parts.set _ (may_be_named free room) (refuses_subject (has_phase good) (unknown bad))
+          refuses_rule_part parts _ (may_be_named free room) (refuses_subject (has_phase good) (unknown bad))
   rule_refused new_book BadMajor adds = by adds.0
     where
       by : IsFirstFault sig old rule BadMajor → Refused BadMajor
       by (bad_major free room good some bad) theorems =
-          refuses_rule_part parts.name parts.number parts.subject parts.phase parts.builder parts.major parts.set _ (may_be_named free room)
+          refuses_rule_part parts _ (may_be_named free room)
           (refuses_major rule.subject (has_phase good) (subject_read some) (no_major bad))
   rule_refused new_book Premises adds = by adds.0
     where
       by : IsFirstFault sig old rule Premises → Refused Premises
       by (premises free room good some fits bad) theorems =
           let P : Builder → Type 0 = λ b. HasBadPremises sig b rule.subject in
-          refuses_rule_part parts.name parts.number parts.subject parts.phase parts.builder parts.major parts.set _ (may_be_named free room)
+          refuses_rule_part parts _ (may_be_named free room)
           (refuses_premises rule.subject (has_phase good) (subject_read some) (rule.major, major_read fits) (subst P read.builder_is bad))
 
-  reads_rule : IsRuleOver sig old rule → ReadsRule text sig old parts.name parts.phase parts.number parts.builder parts.subject parts.major parts.set rule
+  reads_rule : IsRuleOver sig old rule → ReadsRule text sig old parts rule
   reads_rule fits =
       let P : Builder → Type 0 = λ b. HasBadPremises sig b rule.subject → ⊥ in
       record {
@@ -243,7 +254,7 @@ module _ (text : Text) (sig : LfSignature) (old : Book) (parts : RuleParts) (rul
       }
 
   pub rule_declared : (new_book : Book) → (IsTaken old rule → ⊥) → (IsFull old → ⊥) → IsRuleOver sig old rule → new_book ≡ record { rules = old.rules ++ rule ∷ []; lists = old.lists } →
-      DeclaresInBook text sig old (declaration_of parts) new_book
+      DeclaresInBook text sig old (rule_tree parts) new_book
   rule_declared new_book free room fits is theorems =
-      let P : Book → Type 0 = λ book. Declares text (program_with sig old theorems) (declaration_of parts) (program_with sig book theorems) in
-      subst P (sym is) (declares_rule parts.name parts.number parts.subject parts.phase parts.builder parts.major parts.set rule (may_be_named free room) (reads_rule fits))
+      let P : Book → Type 0 = λ book. Declares text (program_with sig old theorems) (rule_tree parts) (program_with sig book theorems) in
+      subst P (sym is) (declares_rule parts rule (may_be_named free room) (reads_rule fits))

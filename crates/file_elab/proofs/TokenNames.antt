@@ -8,6 +8,7 @@ use Rattle.std.proofs.lemmas.Bool.{false≢true}
 use Rattle.std.proofs.lemmas.List.{drop_at, take_at, length-append}
 use Rattle.std.proofs.lemmas.Slice.Eq.{bytes_eq-Decides}
 use Rattle.std.proofs.lemmas.Str.{encodes-append, encode_ascii}
+use Rattle.basics.specs.Limits.{longest_name}
 use Rattle.lex_text.specs.declared.mark.Mark.{Mark}
 use Rattle.lex_text.specs.declared.mark.Mark.TheVariants as mark
 use Rattle.lex_text.specs.declared.token.Token.{Token}
@@ -71,7 +72,7 @@ piece_is {bytes = bytes} {text = text} {place = place} prefix rest next left tex
     middle_is left.before (encode_utf8_all prefix) (encode_utf8_all rest) bytes next.start next.end (parts_past bytes left.before text prefix rest left.parts text_is)
     (start_is ∙ left.place_is) (end_is ∙ ap (λ n. n + width prefix) (sym start_is))
 
-grammar_name : (prefix text : List ℕ) → text ≡ encode_utf8_all prefix → AllByRecursion IsScalar prefix → IsWord prefix → width prefix ≤ 255 → bytes_eq text (codes "type") ≡ false →
+grammar_name : (prefix text : List ℕ) → text ≡ encode_utf8_all prefix → AllByRecursion IsScalar prefix → IsWord prefix → width prefix ≤ longest_name → bytes_eq text (codes "type") ≡ false →
     IsGrammarName text
 grammar_name prefix text text_is scalars word short other = record {
   characters = prefix;

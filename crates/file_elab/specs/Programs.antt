@@ -1,5 +1,5 @@
 -- The program of a file: its declarations are taken in order, each over those before it, up to the first that is refused.
-use Rattle.std.specs.Prelude.{◌≡◌, ℕ, ◌<◌, ◌≤◌, List, [], ◌∷◌, ◌++◌, length, map, Option, Some, None, Contains}
+use Rattle.std.specs.Prelude.{◌≡◌, ℕ, ◌<◌, ◌≤◌, List, [], ◌∷◌, ◌++◌, length, map, Some, None, Contains}
 use Rattle.basics.specs.Limits.{most_symbols, most_rules, most_theorems}
 use Rattle.lex_text.specs.declared.token.Token.{Token}
 use Rattle.lex_text.specs.Tokens.{TokensOf}
@@ -10,8 +10,8 @@ use Rattle.file_syntax.specs.Files.{IsParsed}
 use Rattle.file_trees.specs.declared.span.Span.{Span}
 use Rattle.file_trees.specs.declared.decl_tree.DeclTree.{DeclTree}
 use Rattle.file_trees.specs.declared.decl_tree.DeclTree.TheVariants.{Family, Const, Theorem, Rule as rule_tree, Ctors}
-use Rattle.file_trees.specs.declared.decl_tree.PhaseWord.{PhaseWord}
-use Rattle.file_trees.specs.declared.decl_tree.BuildWord.{BuildWord}
+use Rattle.file_trees.specs.declared.decl_tree.RuleTree.{RuleTree}
+use Rattle.file_trees.specs.declared.decl_tree.TheoremTree.{TheoremTree}
 use Rattle.file_trees.specs.Trees.{Classifier}
 use Rattle.rule_sets.specs.declared.rule.Rule.{Rule}
 use Rattle.rule_sets.specs.Books.{Book, first_book, list_of}
@@ -65,13 +65,13 @@ pub data Declares (text : Text) (old : LfProgram) : DeclTree → LfProgram → T
       ReadsType text old.signature [] (typing_in old.signature [] []) 0 tree type →
       Declares text old (Const name tree)
       (record { signature = old.signature ++ constant_entry (text_at text name) type ∷ []; book = old.book; theorems = old.theorems })
-  declares_theorem : (name : Span) (tree : Classifier) (type : LfType) → MayBeNamed (theorem_names old) most_theorems (text_at text name) →
-      ReadsType text old.signature [] (typing_in old.signature [] []) 0 tree type →
-      Declares text old (Theorem name tree)
-      (record { signature = old.signature; book = old.book; theorems = old.theorems ++ record { name = text_at text name; type = type } ∷ [] })
-  declares_rule : (name number subject : Span) (phase : PhaseWord) (builder : BuildWord) (major set : Option Span) (rule : Rule) →
-      MayBeNamed (rule_names old) most_rules (text_at text name) → ReadsRule text old.signature old.book name phase number builder subject major set rule →
-      Declares text old (rule_tree name phase number builder subject major set)
+  declares_theorem : (tree : TheoremTree) (type : LfType) → MayBeNamed (theorem_names old) most_theorems (text_at text tree.name) →
+      ReadsType text old.signature [] (typing_in old.signature [] []) 0 tree.statement type →
+      Declares text old (Theorem tree)
+      (record { signature = old.signature; book = old.book; theorems = old.theorems ++ record { name = text_at text tree.name; type = type } ∷ [] })
+  declares_rule : (parts : RuleTree) (rule : Rule) → MayBeNamed (rule_names old) most_rules (text_at text parts.name) →
+      ReadsRule text old.signature old.book parts rule →
+      Declares text old (rule_tree parts)
       (record { signature = old.signature; book = record { rules = old.book.rules ++ rule ∷ []; lists = old.book.lists }; theorems = old.theorems })
   declares_constructors : (name : Span) (spans : List Span) (f : ℕ) (constants : List ℕ) → place_of (family_names old.signature) (text_at text name) ≡ Some f →
       list_of old.book.lists f ≡ None → AreNumbers text old.signature spans constants → AreConstructors old.signature f constants →
@@ -92,15 +92,14 @@ pub data Refuses (text : Text) (old : LfProgram) : DeclTree → ElabFault → Ty
       Refuses text old (Const name tree) fault
   refuses_constant_type : (name : Span) (tree : Classifier) (fault : ElabFault) → MayBeNamed (names_of old.signature) most_symbols (text_at text name) →
       RefusesType text old.signature [] (typing_in old.signature [] []) 0 tree fault → Refuses text old (Const name tree) fault
-  refuses_theorem_name : (name : Span) (tree : Classifier) (fault : ElabFault) → RefusesName (theorem_names old) most_theorems text name fault →
-      Refuses text old (Theorem name tree) fault
-  refuses_theorem_type : (name : Span) (tree : Classifier) (fault : ElabFault) → MayBeNamed (theorem_names old) most_theorems (text_at text name) →
-      RefusesType text old.signature [] (typing_in old.signature [] []) 0 tree fault → Refuses text old (Theorem name tree) fault
-  refuses_rule_name : (name number subject : Span) (phase : PhaseWord) (builder : BuildWord) (major set : Option Span) (fault : ElabFault) →
-      RefusesName (rule_names old) most_rules text name fault → Refuses text old (rule_tree name phase number builder subject major set) fault
-  refuses_rule_part : (name number subject : Span) (phase : PhaseWord) (builder : BuildWord) (major set : Option Span) (fault : ElabFault) →
-      MayBeNamed (rule_names old) most_rules (text_at text name) → RefusesRule text old.signature old.book phase number builder subject major fault →
-      Refuses text old (rule_tree name phase number builder subject major set) fault
+  refuses_theorem_name : (tree : TheoremTree) (fault : ElabFault) → RefusesName (theorem_names old) most_theorems text tree.name fault →
+      Refuses text old (Theorem tree) fault
+  refuses_theorem_type : (tree : TheoremTree) (fault : ElabFault) → MayBeNamed (theorem_names old) most_theorems (text_at text tree.name) →
+      RefusesType text old.signature [] (typing_in old.signature [] []) 0 tree.statement fault → Refuses text old (Theorem tree) fault
+  refuses_rule_name : (parts : RuleTree) (fault : ElabFault) → RefusesName (rule_names old) most_rules text parts.name fault →
+      Refuses text old (rule_tree parts) fault
+  refuses_rule_part : (parts : RuleTree) (fault : ElabFault) → MayBeNamed (rule_names old) most_rules (text_at text parts.name) →
+      RefusesRule text old.signature old.book parts fault → Refuses text old (rule_tree parts) fault
   -- the name of no family
   refuses_listed_family : (name : Span) (spans : List Span) → place_of (family_names old.signature) (text_at text name) ≡ None →
       Refuses text old (Ctors name spans) (Unknown name.start)
@@ -132,19 +131,16 @@ pub data DeclaresAll (text : Text) : LfProgram → List DeclTree → LfProgram �
 abbrev pub IsParsedFrom : List ℕ → List DeclTree → Type 0
 IsParsedFrom bytes declarations = (tokens : List Token) × TokensOf bytes tokens × IsParsed bytes tokens declarations
 
--- The text of a file is its bytes with their tokens. This is the program of its declarations.
-abbrev pub IsProgram : List ℕ → List DeclTree → LfProgram → Type 0
-IsProgram bytes declarations program = (tokens : List Token) × TokensOf bytes tokens
-    × DeclaresAll (record { bytes = bytes; tokens = tokens }) first_program declarations program
+-- This is the program of the declarations of a text.
+abbrev pub IsProgram : Text → List DeclTree → LfProgram → Type 0
+IsProgram text declarations program = DeclaresAll text first_program declarations program
 
 -- The first of the declarations that is refused is so for this fault.
-pub record IsRefused (bytes : List ℕ) (declarations : List DeclTree) (fault : ElabFault) : Type 0 where
-  pub tokens : List Token
-  pub cut : TokensOf bytes tokens
+pub record IsRefused (text : Text) (declarations : List DeclTree) (fault : ElabFault) : Type 0 where
   pub prefix : List DeclTree
   pub declaration : DeclTree
   pub rest : List DeclTree
   pub parts : declarations ≡ prefix ++ declaration ∷ rest
   pub program : LfProgram
-  pub declared : DeclaresAll (record { bytes = bytes; tokens = tokens }) first_program prefix program
-  pub refused : Refuses (record { bytes = bytes; tokens = tokens }) program declaration fault
+  pub declared : DeclaresAll text first_program prefix program
+  pub refused : Refuses text program declaration fault

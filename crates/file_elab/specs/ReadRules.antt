@@ -2,9 +2,8 @@
 use Rattle.std.specs.Prelude.{◌≡◌, ◌⊎◌, ◌<◌, ◌≤◌, ◌^◌, ℕ, ℤ, pos, List, length, map, Option, Some, None}
 use Rattle.basics.specs.Places.{place_of}
 use Rattle.lf_definitions.specs.Signatures.{LfSignature, constant_names, constant_types}
+use Rattle.file_trees.specs.declared.decl_tree.RuleTree.{RuleTree}
 use Rattle.file_trees.specs.declared.decl_tree.PhaseWord.{PhaseWord}
-use Rattle.file_trees.specs.declared.decl_tree.DeclTree.{DeclTree}
-use Rattle.file_trees.specs.declared.decl_tree.DeclTree.TheVariants.{Rule as rule_tree}
 use Rattle.rule_sets.specs.declared.rule.Phase.{Phase}
 use Rattle.rule_sets.specs.declared.rule.Builder.{Builder}
 use Rattle.rule_sets.specs.declared.rule.Rule.{Rule}
@@ -15,14 +14,10 @@ use Rattle.rule_sets.specs.Refusals.{IsNoPercent, HasNoSubject, IsBadMajor}
 use Rattle.elab_terms.specs.Names.{Text, text_at}
 use Rattle.elab_terms.specs.declared.elab_fault.ElabFault.{ElabFault}
 use Rattle.elab_terms.specs.declared.elab_fault.ElabFault.TheVariants.{Taken, TooMany, Unknown, BadRule, NoMemory}
-use Rattle.file_elab.specs.declared.rule_parts.RuleParts.{RuleParts}
 use Rattle.file_elab.specs.Rules.{number_value, ReadsPhase, builder_of, subject_of, major_value, major_place, HasMajorPlace, set_of}
 
 abbrev pub names_in : Book → List (List ℕ)
 names_in book = map (λ rule. rule.name) book.rules
-
-abbrev pub declaration_of : RuleParts → DeclTree
-declaration_of parts = rule_tree parts.name parts.phase parts.number parts.builder parts.subject parts.major parts.set
 
 -- A number that may not stand there is read as a percentage that no rule has,
 abbrev pub IsPhaseFor : PhaseWord → ℤ → Phase → Type 0
@@ -52,7 +47,7 @@ abbrev pub FitsMajor : LfSignature → Builder → ℕ → Type 0
 FitsMajor sig builder found = (value : ℤ) → HasMajorPlace sig builder found value → (number : ℕ) × (number < 2 ^ 32) × (value ≡ pos number)
 
 -- The parts of a declaration are read as a rule.
-pub record IsReadRule (text : Text) (sig : LfSignature) (book : Book) (parts : RuleParts) (rule : Rule) : Type 0 where
+pub record IsReadRule (text : Text) (sig : LfSignature) (book : Book) (parts : RuleTree) (rule : Rule) : Type 0 where
   pub name_is : rule.name ≡ text_at text parts.name
   pub set_is : rule.set ≡ set_of text parts.set
   pub builder_is : rule.builder ≡ builder_of parts.builder
@@ -61,7 +56,7 @@ pub record IsReadRule (text : Text) (sig : LfSignature) (book : Book) (parts : R
   pub major_is : IsMajorFor sig rule.builder rule.subject (major_value text parts.major) rule.major
 
 -- where a fault of the rule is said
-abbrev pub refused_as : RuleParts → RuleFault → ElabFault
+abbrev pub refused_as : RuleTree → RuleFault → ElabFault
 refused_as parts rule_faults.Taken = Taken parts.name.start
 refused_as parts rule_faults.Full = TooMany parts.name.start
 refused_as parts rule_faults.Percent = BadRule parts.number.start

@@ -3,6 +3,7 @@ use Rattle.std.specs.Prelude.{◌≡◌, ℕ, ℤ, pos, neg_ℤ, ◌≤ℤ◌, n
 use Rattle.basics.specs.Places.{place_of}
 use Rattle.lf_definitions.specs.Signatures.{LfSignature, constant_names, family_names}
 use Rattle.file_trees.specs.declared.span.Span.{Span}
+use Rattle.file_trees.specs.declared.decl_tree.RuleTree.{RuleTree}
 use Rattle.file_trees.specs.declared.decl_tree.PhaseWord.{PhaseWord}
 use Rattle.file_trees.specs.declared.decl_tree.PhaseWord.TheVariants as phase_words
 use Rattle.file_trees.specs.declared.decl_tree.BuildWord.{BuildWord}
@@ -74,15 +75,14 @@ set_of text None = codes "default"
 set_of text (Some span) = text_at text span
 
 -- The parts of a declaration are this rule.
-pub record ReadsRule (text : Text) (sig : LfSignature) (book : Book) (name : Span) (phase : PhaseWord) (number : Span) (builder : BuildWord) (subject : Span)
-    (major set : Option Span) (rule : Rule) : Type 0 where
-  pub name_is : rule.name ≡ text_at text name
-  pub set_is : rule.set ≡ set_of text set
-  pub phase_is : ReadsPhase phase (number_value (text_at text number)) rule.phase
-  pub builder_is : rule.builder ≡ builder_of builder
-  pub subject_is : subject_of sig book (builder_of builder) (text_at text subject) ≡ Some rule.subject
-  pub major_is : IsMajorNumber sig (builder_of builder) rule.subject (major_value text major) rule.major
-  pub premises_are : HasBadPremises sig (builder_of builder) rule.subject → ⊥
+pub record ReadsRule (text : Text) (sig : LfSignature) (book : Book) (parts : RuleTree) (rule : Rule) : Type 0 where
+  pub name_is : rule.name ≡ text_at text parts.name
+  pub set_is : rule.set ≡ set_of text parts.set
+  pub phase_is : ReadsPhase parts.phase (number_value (text_at text parts.number)) rule.phase
+  pub builder_is : rule.builder ≡ builder_of parts.builder
+  pub subject_is : subject_of sig book (builder_of parts.builder) (text_at text parts.subject) ≡ Some rule.subject
+  pub major_is : IsMajorNumber sig (builder_of parts.builder) rule.subject (major_value text parts.major) rule.major
+  pub premises_are : HasBadPremises sig (builder_of parts.builder) rule.subject → ⊥
 
 abbrev pub HasPhase : Text → PhaseWord → Span → Type 0
 HasPhase text phase number = (value : Phase) × ReadsPhase phase (number_value (text_at text number)) value
@@ -91,14 +91,13 @@ abbrev pub HasMajorPlace : LfSignature → Builder → ℕ → ℤ → Type 0
 HasMajorPlace sig builder subject value = (major : ℕ) × IsMajorNumber sig builder subject value major
 
 -- The first of the parts that is refused: the number, then the subject, then the major argument, then the premises.
-pub data RefusesRule (text : Text) (sig : LfSignature) (book : Book) (phase : PhaseWord) (number : Span) (builder : BuildWord) (subject : Span) (major : Option Span) :
-    ElabFault → Type 0 where
-  refuses_number : (HasPhase text phase number → ⊥) → RefusesRule text sig book phase number builder subject major (BadRule number.start)
-  refuses_subject : HasPhase text phase number → subject_of sig book (builder_of builder) (text_at text subject) ≡ None →
-      RefusesRule text sig book phase number builder subject major (Unknown subject.start)
-  refuses_major : (found : ℕ) → HasPhase text phase number → subject_of sig book (builder_of builder) (text_at text subject) ≡ Some found →
-      (HasMajorPlace sig (builder_of builder) found (major_value text major) → ⊥) →
-      RefusesRule text sig book phase number builder subject major (BadRule (major_place subject major))
-  refuses_premises : (found : ℕ) → HasPhase text phase number → subject_of sig book (builder_of builder) (text_at text subject) ≡ Some found →
-      HasMajorPlace sig (builder_of builder) found (major_value text major) → HasBadPremises sig (builder_of builder) found →
-      RefusesRule text sig book phase number builder subject major (BadRule subject.start)
+pub data RefusesRule (text : Text) (sig : LfSignature) (book : Book) (parts : RuleTree) : ElabFault → Type 0 where
+  refuses_number : (HasPhase text parts.phase parts.number → ⊥) → RefusesRule text sig book parts (BadRule parts.number.start)
+  refuses_subject : HasPhase text parts.phase parts.number → subject_of sig book (builder_of parts.builder) (text_at text parts.subject) ≡ None →
+      RefusesRule text sig book parts (Unknown parts.subject.start)
+  refuses_major : (found : ℕ) → HasPhase text parts.phase parts.number → subject_of sig book (builder_of parts.builder) (text_at text parts.subject) ≡ Some found →
+      (HasMajorPlace sig (builder_of parts.builder) found (major_value text parts.major) → ⊥) →
+      RefusesRule text sig book parts (BadRule (major_place parts.subject parts.major))
+  refuses_premises : (found : ℕ) → HasPhase text parts.phase parts.number → subject_of sig book (builder_of parts.builder) (text_at text parts.subject) ≡ Some found →
+      HasMajorPlace sig (builder_of parts.builder) found (major_value text parts.major) → HasBadPremises sig (builder_of parts.builder) found →
+      RefusesRule text sig book parts (BadRule parts.subject.start)

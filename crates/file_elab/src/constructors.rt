@@ -1,10 +1,8 @@
 //! Declarations of the constructors of a family.
 
-ghost use Rattle.std.specs.Prelude.{◌≡◌, map, IfOk, IfErr, OnOk};
-ghost use Rattle.lex_text.specs.Tokens.{TokensOf};
+ghost use Rattle.std.specs.Prelude.{◌≡◌, map, IfOk, IfErr, OnOk, OnErr};
 ghost use Rattle.rule_sets.specs.Refusals.{IsOver};
 ghost use Rattle.elab_terms.specs.KnownTypes.{IsRefusal};
-ghost use Rattle.elab_terms.specs.FileTexts.{text_in};
 ghost use Rattle.file_elab.specs.Constructors.{number_in, HasPlaceIn, other_refused_as, list_refused_as};
 ghost use Rattle.file_elab.specs.ProgramParts.{DeclaresInBook, RefusesInBook};
 ghost use Rattle.file_trees.specs.declared.decl_tree.DeclTree.TheVariants as declarations;
@@ -12,7 +10,7 @@ ghost use Rattle.file_trees.specs.declared.decl_tree.DeclTree.TheVariants as dec
 use crate::rule_parts::read_constant;
 use basics::{Ids, NoMemory};
 use elab_terms::ElabFault;
-use elab_terms::file_text::{FileText, text};
+use elab_terms::file_text::text;
 use elab_terms::names::{constant_named, family_named};
 use file_trees::{Span, Spans};
 use lf_terms::Signature;
@@ -21,17 +19,18 @@ use std::alloc::Global;
 
 /// Declares the constructors of a family: their names are read as numbers, and the book takes the list, or
 /// says what is wrong with it. It is refused where its name is no family's, or the family has a list, or
-/// else at the first of the constants that is wrong.
+/// else at the first of the constants that is wrong, and then the book is as it was.
 pub fn declare_constructors(
     alloc: Global,
-    source: &FileText<'_>,
+    source: &[u8],
     sig: &Signature,
     book: &mut RuleBook,
     name: Span,
     spans: &Spans,
 ) -> Result<(), ElabFault>
-    ensures declared { IfOk result (λ _. DeclaresInBook (text_in source.now) sig.now book.old (declarations.Ctors name spans.now) book.new) }
-    ensures refused { IfErr result (IsRefusal (RefusesInBook (text_in source.now) sig.now book.old (declarations.Ctors name spans.now))) }
+    ensures declared { IfOk result (λ _. DeclaresInBook source.now sig.now book.old (declarations.Ctors name spans.now) book.new) }
+    ensures refused { IfErr result (IsRefusal (RefusesInBook source.now sig.now book.old (declarations.Ctors name spans.now))) }
+    ensures err { OnErr result (book.new ≡ book.old) }
     ensures over { OnOk result (IsOver sig.now book.old → IsOver sig.now book.new) }
 {
     let Some(family) = family_named(sig, text(source, name)) else {
@@ -47,11 +46,11 @@ pub fn declare_constructors(
 // The numbers of the constants of these names. A name of none is read as a number past them.
 fn read_constants(
     alloc: Global,
-    source: &FileText<'_>,
+    source: &[u8],
     sig: &Signature,
     spans: &[Span],
 ) -> Result<Ids, NoMemory>
-    ensures { IfOk result (λ numbers. numbers ≡ map (number_in (text_in source.now) sig.now) spans.now) }
+    ensures { IfOk result (λ numbers. numbers ≡ map (number_in source.now sig.now) spans.now) }
 {
     let mut numbers = Ids::new(alloc);
     for i in 0..spans.len() {
@@ -61,15 +60,9 @@ fn read_constants(
 }
 
 // The fault of a list of constructors, at the name that has it.
-fn placed(
-    source: &FileText<'_>,
-    sig: &Signature,
-    name: Span,
-    spans: &[Span],
-    fault: CtorFault,
-) -> ElabFault
+fn placed(source: &[u8], sig: &Signature, name: Span, spans: &[Span], fault: CtorFault) -> ElabFault
     requires { HasPlaceIn spans.now fault }
-    ensures { result ≡ list_refused_as (text_in source.now) sig.now name spans.now fault }
+    ensures { result ≡ list_refused_as source.now sig.now name spans.now fault }
 {
     match fault {
         CtorFault::Taken => ElabFault::Taken(name.start),
@@ -80,8 +73,8 @@ fn placed(
 }
 
 // Why a name is none of a constant of the family.
-fn wrong_constant(source: &FileText<'_>, sig: &Signature, span: Span) -> ElabFault
-    ensures { result ≡ other_refused_as (text_in source.now) sig.now span }
+fn wrong_constant(source: &[u8], sig: &Signature, span: Span) -> ElabFault
+    ensures { result ≡ other_refused_as source.now sig.now span }
 {
     match constant_named(sig, text(source, span)) {
         None => ElabFault::Unknown(span.start),

@@ -3,7 +3,6 @@
 ghost use Rattle.std.specs.Prelude.{◌≡◌, ℕ, IfOk, IsFalse};
 ghost use Rattle.lf_definitions.specs.Signatures.{LfSignature};
 ghost use Rattle.elab_terms.specs.Names.{text_at};
-ghost use Rattle.elab_terms.specs.FileTexts.{text_in};
 ghost use Rattle.file_elab.specs.ReadRules.{IsPhaseFor, number_of, IsConstantFor, IsSubjectFor, IsMajorFor, FitsMajor};
 ghost use Rattle.file_elab.specs.Rules.{number_value, builder_of, major_value, set_of};
 ghost use Rattle.rule_sets.specs.declared.rule.Builder.TheVariants as builders;
@@ -11,24 +10,12 @@ ghost use Rattle.rule_sets.specs.Refusals.{IsBadMajor, IsOver};
 
 use crate::number::{natural, penalty};
 use basics::{Name, NoMemory};
-use elab_terms::file_text::{FileText, text};
+use elab_terms::file_text::text;
 use elab_terms::names::{constant_named, family_named};
 use file_trees::{BuildWord, PhaseWord, Span};
 use lf_terms::Signature;
 use rule_sets::{Builder, Phase, RuleBook};
 use std::alloc::Global;
-
-/// The parts of a declaration of a rule, as they are written.
-#[derive(Clone, Copy)]
-pub struct RuleParts {
-    pub name: Span,
-    pub phase: PhaseWord,
-    pub number: Span,
-    pub builder: BuildWord,
-    pub subject: Span,
-    pub major: Option<Span>,
-    pub set: Option<Span>,
-}
 
 /// The phase of a rule with its number. A number that may not stand there is read as a percentage that no
 /// rule may have.
@@ -101,13 +88,13 @@ pub fn read_constant(sig: &Signature, name: &[u8]) -> u32
 /// The number of the major argument, which is 0 where there is none. One past 32 bits is read as a number
 /// that no argument has.
 pub fn read_major(
-    source: &FileText<'_>,
+    source: &[u8],
     sig: &Signature,
     builder: Builder,
     subject: u32,
     major: Option<Span>,
 ) -> Result<u32, NoMemory>
-    ensures { IfOk result (IsMajorFor sig.now builder subject (major_value (text_in source.now) major)) }
+    ensures { IfOk result (IsMajorFor sig.now builder subject (major_value source.now major)) }
 {
     let Some(span) = major else {
         return Ok(0);
@@ -149,8 +136,8 @@ fn no_major(builder: Builder) -> u32
 }
 
 /// The set that a rule is in.
-pub fn read_set(alloc: Global, source: &FileText<'_>, set: Option<Span>) -> Result<Name, NoMemory>
-    ensures { IfOk result (λ name. name ≡ set_of (text_in source.now) set) }
+pub fn read_set(alloc: Global, source: &[u8], set: Option<Span>) -> Result<Name, NoMemory>
+    ensures { IfOk result (λ name. name ≡ set_of source.now set) }
 {
     match set {
         None => Name::from_slice(alloc, b"default"),

@@ -1,35 +1,28 @@
 //! Declarations of families and constants.
 
-ghost use Rattle.std.specs.Prelude.{◌≡◌, IfOk, IfErr};
+ghost use Rattle.std.specs.Prelude.{◌≡◌, IfOk, IfErr, OnErr};
 ghost use Rattle.lf_definitions.specs.Signatures.{names_of};
-ghost use Rattle.lex_text.specs.Tokens.{TokensOf};
 ghost use Rattle.elab_terms.specs.KnownTypes.{IsRefusal};
 ghost use Rattle.elab_terms.specs.Names.{text_at};
 ghost use Rattle.file_elab.specs.ProgramParts.{DeclaresSymbol, RefusesSymbol};
 ghost use Rattle.basics.specs.Limits.{most_symbols};
 ghost use Rattle.file_elab.specs.Programs.{MayBeNamed, RefusesName};
-ghost use Rattle.elab_terms.specs.FileTexts.{text_in};
 ghost use Rattle.file_trees.specs.declared.decl_tree.DeclTree.TheVariants as declarations;
 
 use basics::Name;
 use basics::limits::MOST_SYMBOLS;
 use elab_terms::ElabFault;
 use elab_terms::closed::{closed_kind, closed_type};
-use elab_terms::file_text::{FileText, text};
+use elab_terms::file_text::text;
 use file_trees::{Span, TypeTree};
 use lf_terms::Signature;
 use std::alloc::Global;
 
 // The name of a family or a constant that is declared.
-fn symbol_name(
-    alloc: Global,
-    source: &FileText<'_>,
-    sig: &Signature,
-    name: Span,
-) -> Result<Name, ElabFault>
-    ensures name { IfOk result (λ word. word ≡ text_at (text_in source.now) name) }
-    ensures new { IfOk result (λ _. MayBeNamed (names_of sig.now) most_symbols (text_at (text_in source.now) name)) }
-    ensures refused { IfErr result (IsRefusal (RefusesName (names_of sig.now) most_symbols (text_in source.now) name)) }
+fn symbol_name(alloc: Global, source: &[u8], sig: &Signature, name: Span) -> Result<Name, ElabFault>
+    ensures name { IfOk result (λ word. word ≡ text_at source.now name) }
+    ensures new { IfOk result (λ _. MayBeNamed (names_of sig.now) most_symbols (text_at source.now name)) }
+    ensures refused { IfErr result (IsRefusal (RefusesName (names_of sig.now) most_symbols source.now name)) }
 {
     let word = Name::from_slice(alloc, text(source, name))?;
     if let Some(_) = sig.order_of(&word) {
@@ -41,17 +34,17 @@ fn symbol_name(
     Ok(word)
 }
 
-/// Declares a family with its kind, or answers why not.
+/// Declares a family with its kind, or answers why not, and then the signature is as it was.
 pub fn declare_family(
     alloc: Global,
-    source: &FileText<'_>,
+    source: &[u8],
     sig: &mut Signature,
     name: Span,
     tree: &TypeTree,
 ) -> Result<(), ElabFault>
-    requires { TokensOf source.now.bytes.now source.now.tokens.now }
-    ensures declared { IfOk result (λ _. DeclaresSymbol (text_in source.now) sig.old (declarations.Family name tree.now) sig.new) }
-    ensures refused { IfErr result (IsRefusal (RefusesSymbol (text_in source.now) sig.old (declarations.Family name tree.now))) }
+    ensures declared { IfOk result (λ _. DeclaresSymbol source.now sig.old (declarations.Family name tree.now) sig.new) }
+    ensures refused { IfErr result (IsRefusal (RefusesSymbol source.now sig.old (declarations.Family name tree.now))) }
+    ensures err { OnErr result (sig.new ≡ sig.old) }
 {
     match symbol_name(alloc, source, &*sig, name) {
         Err(fault) => Err(fault),
@@ -67,17 +60,17 @@ pub fn declare_family(
     }
 }
 
-/// Declares a constant with its type, or answers why not.
+/// Declares a constant with its type, or answers why not, and then the signature is as it was.
 pub fn declare_constant(
     alloc: Global,
-    source: &FileText<'_>,
+    source: &[u8],
     sig: &mut Signature,
     name: Span,
     tree: &TypeTree,
 ) -> Result<(), ElabFault>
-    requires { TokensOf source.now.bytes.now source.now.tokens.now }
-    ensures declared { IfOk result (λ _. DeclaresSymbol (text_in source.now) sig.old (declarations.Const name tree.now) sig.new) }
-    ensures refused { IfErr result (IsRefusal (RefusesSymbol (text_in source.now) sig.old (declarations.Const name tree.now))) }
+    ensures declared { IfOk result (λ _. DeclaresSymbol source.now sig.old (declarations.Const name tree.now) sig.new) }
+    ensures refused { IfErr result (IsRefusal (RefusesSymbol source.now sig.old (declarations.Const name tree.now))) }
+    ensures err { OnErr result (sig.new ≡ sig.old) }
 {
     match symbol_name(alloc, source, &*sig, name) {
         Err(fault) => Err(fault),

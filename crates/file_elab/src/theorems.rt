@@ -1,10 +1,8 @@
 //! Declarations of theorems.
 
-ghost use Rattle.std.specs.Prelude.{◌≡◌, ℕ, List, map, IfOk, IfErr, OnOk};
-ghost use Rattle.lex_text.specs.Tokens.{TokensOf};
+ghost use Rattle.std.specs.Prelude.{◌≡◌, ℕ, List, map, IfOk, IfErr, OnOk, OnErr};
 ghost use Rattle.elab_terms.specs.KnownTypes.{IsRefusal};
 ghost use Rattle.elab_terms.specs.Names.{text_at};
-ghost use Rattle.elab_terms.specs.FileTexts.{text_in};
 ghost use Rattle.file_elab.specs.ProgramParts.{DeclaresTheorem, RefusesTheorem};
 ghost use Rattle.basics.specs.Limits.{most_theorems};
 ghost use Rattle.file_elab.specs.Programs.{MayBeNamed, RefusesName};
@@ -16,21 +14,21 @@ use basics::Name;
 use basics::limits::MOST_THEOREMS;
 use elab_terms::ElabFault;
 use elab_terms::closed::closed_type;
-use elab_terms::file_text::{FileText, text};
-use file_trees::{Span, TypeTree};
+use elab_terms::file_text::text;
+use file_trees::{Span, TheoremTree};
 use lf_terms::Signature;
 use std::alloc::Global;
 
 // The name of a theorem that is declared.
 fn theorem_name(
     alloc: Global,
-    source: &FileText<'_>,
+    source: &[u8],
     theorems: &TheoremList,
     name: Span,
 ) -> Result<Name, ElabFault>
-    ensures name { IfOk result (λ word. word ≡ text_at (text_in source.now) name) }
-    ensures new { IfOk result (λ _. MayBeNamed (map (λ theorem. theorem.name) theorems.now) most_theorems (text_at (text_in source.now) name)) }
-    ensures refused { IfErr result (IsRefusal (RefusesName (map (λ theorem. theorem.name) theorems.now) most_theorems (text_in source.now) name)) }
+    ensures name { IfOk result (λ word. word ≡ text_at source.now name) }
+    ensures new { IfOk result (λ _. MayBeNamed (map (λ theorem. theorem.name) theorems.now) most_theorems (text_at source.now name)) }
+    ensures refused { IfErr result (IsRefusal (RefusesName (map (λ theorem. theorem.name) theorems.now) most_theorems source.now name)) }
 {
     let word = Name::from_slice(alloc, text(source, name))?;
     if let Some(_) = theorems.find(word.as_bytes()) {
@@ -42,23 +40,23 @@ fn theorem_name(
     Ok(word)
 }
 
-/// Declares a theorem with its type, which is well formed, or answers why not.
+/// Declares a theorem with its type, which is well formed, or answers why not, and then the theorems are as
+/// they were.
 pub fn declare_theorem(
     alloc: Global,
-    source: &FileText<'_>,
+    source: &[u8],
     sig: &Signature,
     theorems: &mut TheoremList,
-    name: Span,
-    tree: &TypeTree,
+    tree: &TheoremTree,
 ) -> Result<(), ElabFault>
-    requires { TokensOf source.now.bytes.now source.now.tokens.now }
-    ensures declared { IfOk result (λ _. DeclaresTheorem (text_in source.now) sig.now theorems.old (declarations.Theorem name tree.now) theorems.new) }
+    ensures declared { IfOk result (λ _. DeclaresTheorem source.now sig.now theorems.old (declarations.Theorem tree.now) theorems.new) }
     ensures formed { OnOk result (AreFormed sig.now theorems.old → AreFormed sig.now theorems.new) }
-    ensures refused { IfErr result (IsRefusal (RefusesTheorem (text_in source.now) sig.now theorems.old (declarations.Theorem name tree.now))) }
+    ensures refused { IfErr result (IsRefusal (RefusesTheorem source.now sig.now theorems.old (declarations.Theorem tree.now))) }
+    ensures err { OnErr result (theorems.new ≡ theorems.old) }
 {
-    match theorem_name(alloc, source, &*theorems, name) {
+    match theorem_name(alloc, source, &*theorems, tree.name) {
         Err(fault) => Err(fault),
-        Ok(word) => match closed_type(alloc, source, sig, tree) {
+        Ok(word) => match closed_type(alloc, source, sig, &tree.statement) {
             Err(fault) => Err(fault),
             Ok(ty) => {
                 let Ok(_) = theorems.push(alloc, Theorem { name: word, ty }) else {

@@ -1,6 +1,7 @@
 -- What was read from the start can always be completed to a file.
 use Rattle.std.proofs.Common.{◌≡◌, if◌then◌else◌, List, [], ◌∷◌, ◌++◌, Option, Some, None, refl, sym, subst}
 use Rattle.file_trees.specs.declared.span.Span.{Span}
+use Rattle.file_trees.specs.declared.span.BinderSpan.{BinderSpan}
 use Rattle.file_syntax.specs.declared.terminal.Keyword.{Keyword}
 use Rattle.file_syntax.specs.declared.terminal.Keyword.TheVariants.{Family as family_word, Const as const_word, Theorem as theorem_word, Data as data_word, Rule as rule_word, Norm as norm_word, Apply as apply_word, Other as other_word}
 use Rattle.file_syntax.specs.declared.terminal.Terminal.{Terminal}
@@ -20,7 +21,7 @@ use Rattle.file_syntax.specs.declared.state.Frame.{Frame}
 use Rattle.file_syntax.specs.declared.state.Frame.TheVariants.{Declared, Brace, Group, Argument}
 use Rattle.file_syntax.specs.declared.state.State.{State}
 use Rattle.file_trees.specs.Trees.{Tree, leaf, applied, Classifier, family, star, Binding, pi_of, arrow_of, bind}
-use Rattle.file_syntax.specs.Productions.{joined_spans, up_to}
+use Rattle.file_syntax.specs.Productions.{binder_of}
 use Rattle.file_syntax.specs.Reading.{at_top, went_on, ended, abstracted, close_type, close_kind, close_term, no_argument, term_arguments, family_arguments, stands_at_kind, move, stepped, run}
 use Rattle.file_syntax.specs.Reading.{started, begun, next_part, ended_rule, typed}
 use Rattle.file_syntax.proofs.Endings.{Ends}
@@ -61,12 +62,12 @@ Fits (DataNames named names) frames = Unit {0}
 Fits (InRule part) frames = Unit {0}
 Fits (TypeStart bindings) frames = TypeOpen frames
 Fits (PiName bindings span) frames = TypeOpen frames
-Fits (PiColon bindings span) frames = TypeOpen frames
+Fits (PiColon bindings binder) frames = TypeOpen frames
 Fits (GroupEnd bindings inner) frames = TypeOpen frames
 Fits (StarEnd bindings span) frames = KindOpen frames
 Fits (Arguments owner items) frames = OwnerOpen owner frames
 Fits (AbsName binders span) frames = TermOpen frames
-Fits (AbsClose binders span) frames = TermOpen frames
+Fits (AbsClose binders binder) frames = TermOpen frames
 
 abbrev pub FitsSome : Option State → Type 0
 FitsSome None = Unit {0}
@@ -108,7 +109,7 @@ close_term-fits decls (Argument (of_family bindings span) items ∷ frames) tree
 close_term-fits decls (Argument (of_term binders) items ∷ frames) tree f = f
 close_term-fits decls _ tree f = tt
 
-term-fits : (decls : List DeclTree) (frames : List Frame) (binders : List Span) (items : List Tree) (terminal : Terminal) → TermOpen frames →
+term-fits : (decls : List DeclTree) (frames : List Frame) (binders : List BinderSpan) (items : List Tree) (terminal : Terminal) → TermOpen frames →
     FitsSome (term_arguments decls frames binders items terminal)
 term-fits decls frames binders [] (LBracket span) f = f
 term-fits decls frames binders (tree ∷ items) (RParen span) f = close_term-fits decls frames (abstracted binders (applied tree items)) f
@@ -149,8 +150,8 @@ move-fits decls frames (TypeStart bindings) _ f = tt
 move-fits decls frames (PiName bindings brace) (Word word span) f = f
 move-fits decls frames (PiName bindings brace) (Var span) f = f
 move-fits decls frames (PiName bindings brace) _ f = tt
-move-fits decls frames (PiColon bindings brace) (Colon span) f = f
-move-fits decls frames (PiColon bindings brace) _ f = tt
+move-fits decls frames (PiColon bindings binder) (Colon span) f = f
+move-fits decls frames (PiColon bindings binder) _ f = tt
 move-fits decls frames (GroupEnd bindings inner) (Arrow span) f = f
 move-fits decls frames (GroupEnd bindings inner) terminal f = close-fits decls frames (bind bindings inner) terminal f
 move-fits decls frames (StarEnd bindings word) (Dot span) f = kind-fits decls frames (bind bindings (star word))
@@ -163,8 +164,8 @@ move-fits decls frames (Arguments owner items) terminal f = owner-fits decls fra
 move-fits decls frames (AbsName binders bracket) (Word word span) f = f
 move-fits decls frames (AbsName binders bracket) (Var span) f = f
 move-fits decls frames (AbsName binders bracket) _ f = tt
-move-fits decls frames (AbsClose binders bracket) (RBracket span) f = f
-move-fits decls frames (AbsClose binders bracket) _ f = tt
+move-fits decls frames (AbsClose binders binder) (RBracket span) f = f
+move-fits decls frames (AbsClose binders binder) _ f = tt
 
 stepped-fits : (state : Option State) (terminal : Terminal) → FitsSome state → FitsSome (stepped state terminal)
 stepped-fits None terminal f = tt
@@ -203,7 +204,7 @@ finish_family (Group outer ∷ frames) f decls bindings span items =
 finish_family (Argument owner arguments ∷ frames) f decls bindings span items = absurd f
 finish_family [] f decls bindings span items = absurd f
 
-finish_term : (frames : List Frame) → TermOpen frames → (decls : List DeclTree) (binders : List Span) (tree : Tree) (items : List Tree) →
+finish_term : (frames : List Frame) → TermOpen frames → (decls : List DeclTree) (binders : List BinderSpan) (tree : Tree) (items : List Tree) →
     Completed decls frames (Arguments (of_term binders) (tree ∷ items))
 finish_term (Argument (of_family bindings span) arguments ∷ frames) f decls binders tree items =
     let r : Completed decls frames (Arguments (of_family bindings span) (arguments ++ abstracted binders (applied tree items) ∷ [])) =
@@ -272,11 +273,11 @@ finish_star : (frames : List Frame) → KindOpen frames → (decls : List DeclTr
 finish_star (Declared goal_family named ∷ frames) f decls bindings word = record { more = Dot nowhere ∷ []; final = _; ends = (refl, refl) }
 finish_star _ f decls bindings word = absurd f
 
-finish_head : (frames : List Frame) → TermOpen frames → (decls : List DeclTree) (binders : List Span) → Completed decls frames (Arguments (of_term binders) [])
+finish_head : (frames : List Frame) → TermOpen frames → (decls : List DeclTree) (binders : List BinderSpan) → Completed decls frames (Arguments (of_term binders) [])
 finish_head frames f decls binders = after_terminal (Word other_word nowhere) refl (finish_term frames f decls binders (leaf nowhere) [])
 
-finish_bracket : (frames : List Frame) → TermOpen frames → (decls : List DeclTree) (binders : List Span) (bracket : Span) → Completed decls frames (AbsClose binders bracket)
-finish_bracket frames f decls binders bracket = after_terminal (RBracket nowhere) refl (finish_head frames f decls (binders ++ joined_spans bracket nowhere ∷ []))
+finish_bracket : (frames : List Frame) → TermOpen frames → (decls : List DeclTree) (binders : List BinderSpan) (binder : BinderSpan) → Completed decls frames (AbsClose binders binder)
+finish_bracket frames f decls binders binder = after_terminal (RBracket nowhere) refl (finish_head frames f decls (binders ++ binder ∷ []))
 
 -- Whatever is being read can be completed.
 pub completion : (top : Top) (frames : List Frame) → Fits top frames → (decls : List DeclTree) → Completed decls frames top
@@ -289,12 +290,12 @@ completion (DataNames named names) frames f decls = finish_names decls frames na
 completion (InRule part) frames f decls = finish_rule part decls frames
 completion (TypeStart bindings) frames f decls = finish_start frames f decls bindings
 completion (PiName bindings brace) frames f decls =
-    after_terminal (Word other_word nowhere) refl (after_terminal (Colon nowhere) refl (finish_start (Brace bindings (up_to brace nowhere) ∷ frames) f decls []))
-completion (PiColon bindings brace) frames f decls = after_terminal (Colon nowhere) refl (finish_start (Brace bindings (up_to brace nowhere) ∷ frames) f decls [])
+    after_terminal (Word other_word nowhere) refl (after_terminal (Colon nowhere) refl (finish_start (Brace bindings (binder_of brace nowhere) ∷ frames) f decls []))
+completion (PiColon bindings binder) frames f decls = after_terminal (Colon nowhere) refl (finish_start (Brace bindings binder ∷ frames) f decls [])
 completion (GroupEnd bindings inner) frames f decls = after_terminal (Arrow nowhere) refl (finish_start frames f decls (bindings ++ arrow_of inner ∷ []))
 completion (StarEnd bindings word) frames f decls = finish_star frames f decls bindings word
 completion (Arguments (of_family bindings span) items) frames f decls = finish_family frames f decls bindings span items
 completion (Arguments (of_term binders) []) frames f decls = finish_head frames f decls binders
 completion (Arguments (of_term binders) (tree ∷ items)) frames f decls = finish_term frames f decls binders tree items
-completion (AbsName binders bracket) frames f decls = after_terminal (Word other_word nowhere) refl (finish_bracket frames f decls binders bracket)
-completion (AbsClose binders bracket) frames f decls = finish_bracket frames f decls binders bracket
+completion (AbsName binders bracket) frames f decls = after_terminal (Word other_word nowhere) refl (finish_bracket frames f decls binders (binder_of bracket nowhere))
+completion (AbsClose binders binder) frames f decls = finish_bracket frames f decls binders binder

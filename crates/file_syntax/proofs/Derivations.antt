@@ -1,6 +1,7 @@
 -- Each derivation of the grammar is read: the machine goes over its terminals and keeps its tree.
 use Rattle.std.proofs.Common.{◌≡◌, List, [], ◌∷◌, ◌++◌, Option, Some, refl, ap, sym, ◌∙◌}
 use Rattle.file_trees.specs.declared.span.Span.{Span}
+use Rattle.file_trees.specs.declared.span.BinderSpan.{BinderSpan}
 use Rattle.file_syntax.specs.declared.terminal.Keyword.{Keyword}
 use Rattle.file_syntax.specs.declared.terminal.Terminal.{Terminal}
 use Rattle.file_syntax.specs.declared.terminal.Terminal.TheVariants.{Word, Number, Colon, Dot, Arrow, RParen, LBrace, RBrace, LBracket, RBracket}
@@ -18,14 +19,14 @@ use Rattle.file_syntax.specs.declared.state.Top.TheVariants.{Between, DataNames,
 use Rattle.file_syntax.specs.declared.state.Frame.{Frame}
 use Rattle.file_syntax.specs.declared.state.Frame.TheVariants.{Declared, Brace, Group, Argument}
 use Rattle.file_trees.specs.Trees.{Tree, applied, Classifier, family, star, Binding, pi_of, arrow_of, bind}
-use Rattle.file_syntax.specs.Productions.{joined_spans, up_to, IsBound, a_name, a_variable, IsTerm, abstracts, applies, IsArgument, name, variable, term, AreArguments, no_more, one_more, IsType, binds, ends, goes_to, IsSimple, family_of, group, IsKind, is_type, kind_binds, kind_goes_to, IsPhase, norm, safe, unsafe, IsBuilder, apply, constructors, cases, forward, destruct, IsMajorPart, no_major, major_at, IsSet, no_set, set_in, AreNames, no_name, one_name, IsDecl, a_family, a_const, a_theorem, some_data, a_rule, IsFile, no_decl, one_decl}
+use Rattle.file_syntax.specs.Productions.{binder_of, IsBound, a_name, a_variable, IsTerm, abstracts, applies, IsArgument, name, variable, term, AreArguments, no_more, one_more, IsType, binds, ends, goes_to, IsSimple, family_of, group, IsKind, is_type, kind_binds, kind_goes_to, IsPhase, norm, safe, unsafe, IsBuilder, apply, constructors, cases, forward, destruct, IsMajorPart, no_major, major_at, IsSet, no_set, set_in, AreNames, no_name, one_name, IsDecl, a_family, a_const, a_theorem, some_data, a_rule, IsFile, no_decl, one_decl}
 use Rattle.file_syntax.specs.Reading.{at_top, phase_of, builder_word, with_phase, with_builder, went_on, rule_from, abstracted, close_type, past_arrow, move, run, start}
 use Rattle.file_syntax.proofs.Abstractions.{abstracted_append, bind_append}
 use Rattle.std.proofs.lemmas.List.{append-nil, append_assoc}
 
 -- a term that is read up to its end: its abstractions, its head and its arguments
-pub record TermEnd (terminals rest : List Terminal) (tree : Tree) (decls : List DeclTree) (frames : List Frame) (binders : List Span) : Type 0 where
-  pub spans : List Span
+pub record TermEnd (terminals rest : List Terminal) (tree : Tree) (decls : List DeclTree) (frames : List Frame) (binders : List BinderSpan) : Type 0 where
+  pub spans : List BinderSpan
   pub first : Tree
   pub arguments : List Tree
   pub ran : run terminals (at_top decls frames (Arguments (of_term binders) [])) ≡ run rest (at_top decls frames (Arguments (of_term spans) (first ∷ arguments)))
@@ -37,9 +38,9 @@ closed-term : {inside rest : List Terminal} {closing : Span} {tree : Tree} {decl
 closed-term {rest = rest} {decls = decls} {frames = frames} {owner = owner} {items = items} e =
     e.ran ∙ ap (λ t. run rest (at_top decls frames (Arguments owner (items ++ t ∷ [])))) e.tree_is
 
-bracket-run : (bound : Terminal) → IsBound bound → (opening closing : Span) (inside : List Terminal) (decls : List DeclTree) (frames : List Frame) (binders : List Span) →
+bracket-run : (bound : Terminal) {bound_name : Span} → IsBound bound bound_name → (opening closing : Span) (inside : List Terminal) (decls : List DeclTree) (frames : List Frame) (binders : List BinderSpan) →
     run (LBracket opening ∷ bound ∷ RBracket closing ∷ inside) (at_top decls frames (Arguments (of_term binders) []))
-    ≡ run inside (at_top decls frames (Arguments (of_term (binders ++ joined_spans opening closing ∷ [])) []))
+    ≡ run inside (at_top decls frames (Arguments (of_term (binders ++ binder_of opening bound_name ∷ [])) []))
 bracket-run _ (a_name word span) opening closing inside decls frames binders = refl
 bracket-run _ (a_variable span) opening closing inside decls frames binders = refl
 
@@ -62,15 +63,15 @@ mutual
       ∙ ap (λ l. run rest (at_top decls frames (Arguments owner l))) (append_assoc items (tree ∷ []) arguments))
 
   pub term-run : {terminals rest : List Terminal} {tree : Tree} → IsTerm terminals rest tree →
-      (decls : List DeclTree) (frames : List Frame) (binders : List Span) → TermEnd terminals rest tree decls frames binders
-  term-run (abstracts opening closing bound inside rest body b d) decls frames binders =
-      let e : TermEnd inside rest body decls frames (binders ++ joined_spans opening closing ∷ []) = term-run d decls frames (binders ++ joined_spans opening closing ∷ []) in
+      (decls : List DeclTree) (frames : List Frame) (binders : List BinderSpan) → TermEnd terminals rest tree decls frames binders
+  term-run (abstracts opening closing bound_name bound inside rest body b d) decls frames binders =
+      let e : TermEnd inside rest body decls frames (binders ++ binder_of opening bound_name ∷ []) = term-run d decls frames (binders ++ binder_of opening bound_name ∷ []) in
       record {
         spans = e.spans;
         first = e.first;
         arguments = e.arguments;
         ran = bracket-run bound b opening closing inside decls frames binders ∙ e.ran;
-        tree_is = e.tree_is ∙ abstracted_append binders (joined_spans opening closing ∷ []) body;
+        tree_is = e.tree_is ∙ abstracted_append binders (binder_of opening bound_name ∷ []) body;
       }
   term-run (applies terminals after rest tree arguments d ds) decls frames binders =
       record {
@@ -119,18 +120,18 @@ pub record TypeEnd (terminals rest : List Terminal) (classifier : Classifier) (d
   pub ran : run terminals (at_top decls frames (TypeStart bindings)) ≡ run rest (at_top decls frames top)
   pub type_is : bind whole last ≡ bind bindings classifier
 
-brace-run : (bound : Terminal) → IsBound bound → (opening colon : Span) (inside : List Terminal) (decls : List DeclTree) (frames : List Frame) (bindings : List Binding) →
+brace-run : (bound : Terminal) {bound_name : Span} → IsBound bound bound_name → (opening colon : Span) (inside : List Terminal) (decls : List DeclTree) (frames : List Frame) (bindings : List Binding) →
     run (LBrace opening ∷ bound ∷ Colon colon ∷ inside) (at_top decls frames (TypeStart bindings))
-    ≡ run inside (at_top decls (Brace bindings (up_to opening colon) ∷ frames) (TypeStart []))
+    ≡ run inside (at_top decls (Brace bindings (binder_of opening bound_name) ∷ frames) (TypeStart []))
 brace-run _ (a_name word span) opening colon inside decls frames bindings = refl
 brace-run _ (a_variable span) opening colon inside decls frames bindings = refl
 
-closed-brace : {inside after : List Terminal} {closing : Span} {domain : Classifier} {decls : List DeclTree} {frames : List Frame} {bindings : List Binding} {span : Span} →
-    TypeEnd inside (RBrace closing ∷ after) domain decls (Brace bindings span ∷ frames) [] →
-    run inside (at_top decls (Brace bindings span ∷ frames) (TypeStart [])) ≡ run after (at_top decls frames (TypeStart (bindings ++ pi_of span domain ∷ [])))
-closed-brace {after = after} {closing = closing} {decls = decls} {frames = frames} {bindings = bindings} {span = span} e =
-    e.ran ∙ (ap (run after) (rbrace-move e.ended closing decls (Brace bindings span ∷ frames))
-    ∙ ap (λ c. run after (at_top decls frames (TypeStart (bindings ++ pi_of span c ∷ [])))) e.type_is)
+closed-brace : {inside after : List Terminal} {closing : Span} {domain : Classifier} {decls : List DeclTree} {frames : List Frame} {bindings : List Binding} {binder : BinderSpan} →
+    TypeEnd inside (RBrace closing ∷ after) domain decls (Brace bindings binder ∷ frames) [] →
+    run inside (at_top decls (Brace bindings binder ∷ frames) (TypeStart [])) ≡ run after (at_top decls frames (TypeStart (bindings ++ pi_of binder domain ∷ [])))
+closed-brace {after = after} {closing = closing} {decls = decls} {frames = frames} {bindings = bindings} {binder = binder} e =
+    e.ran ∙ (ap (run after) (rbrace-move e.ended closing decls (Brace bindings binder ∷ frames))
+    ∙ ap (λ c. run after (at_top decls frames (TypeStart (bindings ++ pi_of binder c ∷ [])))) e.type_is)
 
 closed-group : {inside rest : List Terminal} {closing : Span} {classifier : Classifier} {decls : List DeclTree} {frames : List Frame} {bindings : List Binding} →
     TypeEnd inside (RParen closing ∷ rest) classifier decls (Group bindings ∷ frames) [] →
@@ -147,17 +148,17 @@ passed-arrow {after = after} {span = span} {decls = decls} {frames = frames} e =
 mutual
   pub type-run : {terminals rest : List Terminal} {classifier : Classifier} → IsType terminals rest classifier →
       (decls : List DeclTree) (frames : List Frame) (bindings : List Binding) → TypeEnd terminals rest classifier decls frames bindings
-  type-run (binds opening colon closing bound inside after rest domain body b d k) decls frames bindings =
-      let e : TypeEnd after rest body decls frames (bindings ++ pi_of (up_to opening colon) domain ∷ []) =
-      type-run k decls frames (bindings ++ pi_of (up_to opening colon) domain ∷ []) in
+  type-run (binds opening colon closing bound_name bound inside after rest domain body b d k) decls frames bindings =
+      let e : TypeEnd after rest body decls frames (bindings ++ pi_of (binder_of opening bound_name) domain ∷ []) =
+      type-run k decls frames (bindings ++ pi_of (binder_of opening bound_name) domain ∷ []) in
       record {
         top = e.top;
         whole = e.whole;
         last = e.last;
         ended = e.ended;
         ran = brace-run bound b opening colon inside decls frames bindings
-            ∙ (closed-brace (type-run d decls (Brace bindings (up_to opening colon) ∷ frames) []) ∙ e.ran);
-        type_is = e.type_is ∙ bind_append bindings (pi_of (up_to opening colon) domain ∷ []) body;
+            ∙ (closed-brace (type-run d decls (Brace bindings (binder_of opening bound_name) ∷ frames) []) ∙ e.ran);
+        type_is = e.type_is ∙ bind_append bindings (pi_of (binder_of opening bound_name) domain ∷ []) body;
       }
   type-run (ends terminals rest last d) decls frames bindings =
       let e : SimpleEnd terminals rest last decls frames bindings = simple-run d decls frames bindings in
@@ -198,15 +199,15 @@ pub kind-run : {terminals rest : List Terminal} {classifier : Classifier} → Is
     (decls : List DeclTree) (family_name : Span) (frames : List Frame) (bindings : List Binding) →
     KindEnd terminals rest classifier decls (Declared goal_family family_name ∷ frames) bindings
 kind-run (is_type span rest) decls family_name frames bindings = record { whole = bindings; word = span; ran = refl; kind_is = refl }
-kind-run (kind_binds opening colon closing bound inside after rest domain body b d k) decls family_name frames bindings =
-    let e : KindEnd after rest body decls (Declared goal_family family_name ∷ frames) (bindings ++ pi_of (up_to opening colon) domain ∷ []) =
-    kind-run k decls family_name frames (bindings ++ pi_of (up_to opening colon) domain ∷ []) in
+kind-run (kind_binds opening colon closing bound_name bound inside after rest domain body b d k) decls family_name frames bindings =
+    let e : KindEnd after rest body decls (Declared goal_family family_name ∷ frames) (bindings ++ pi_of (binder_of opening bound_name) domain ∷ []) =
+    kind-run k decls family_name frames (bindings ++ pi_of (binder_of opening bound_name) domain ∷ []) in
     record {
       whole = e.whole;
       word = e.word;
       ran = brace-run bound b opening colon inside decls (Declared goal_family family_name ∷ frames) bindings
-          ∙ (closed-brace (type-run d decls (Brace bindings (up_to opening colon) ∷ Declared goal_family family_name ∷ frames) []) ∙ e.ran);
-      kind_is = e.kind_is ∙ bind_append bindings (pi_of (up_to opening colon) domain ∷ []) body;
+          ∙ (closed-brace (type-run d decls (Brace bindings (binder_of opening bound_name) ∷ Declared goal_family family_name ∷ frames) []) ∙ e.ran);
+      kind_is = e.kind_is ∙ bind_append bindings (pi_of (binder_of opening bound_name) domain ∷ []) body;
     }
 kind-run (kind_goes_to terminals after rest span left right d k) decls family_name frames bindings =
     let e : KindEnd after rest right decls (Declared goal_family family_name ∷ frames) (bindings ++ arrow_of left ∷ []) =
@@ -260,7 +261,7 @@ decl-run (a_const first named colon dot word terminals rest classifier k) decls 
 decl-run (a_theorem first named colon dot word terminals rest classifier k) decls frames =
     let e : TypeEnd terminals (Dot dot ∷ rest) classifier decls (Declared goal_theorem named ∷ frames) [] = type-run k decls (Declared goal_theorem named ∷ frames) [] in
     e.ran ∙ (ap (run rest) (dot-move e.ended dot decls (Declared goal_theorem named ∷ frames))
-    ∙ ap (λ c. run rest (at_top (decls ++ theorem_tree named c ∷ []) frames Between)) e.type_is)
+    ∙ ap (λ c. run rest (at_top (decls ++ theorem_tree (record { name = named; statement = c }) ∷ []) frames Between)) e.type_is)
 decl-run (some_data first named equals dot word terminals rest names ds) decls frames = names-run ds decls frames named []
 decl-run (a_rule first named colon phase_span number builder_span subject dot word phase_word builder_word other terminals after rest phase builder major set p b m s) decls frames =
     ap (λ o. run (Number number ∷ Word builder_word builder_span ∷ Word other subject ∷ terminals) (went_on decls frames (with_phase named o))) (phase-is p)

@@ -2,6 +2,7 @@
 use Rattle.std.proofs.Common.{◌≡◌, ℕ, zero, suc, ◌<◌, List, [], ◌∷◌, ◌++◌, length, Option, Some, None, sym, subst, arith}
 use Rattle.std.proofs.lemmas.List.{append-nil, append_assoc}
 use Rattle.file_trees.specs.declared.span.Span.{Span}
+use Rattle.file_trees.specs.declared.span.BinderSpan.{BinderSpan}
 use Rattle.file_syntax.specs.declared.terminal.Terminal.{Terminal}
 use Rattle.file_syntax.specs.declared.terminal.Terminal.TheVariants.{Word, Var, LParen, RParen, LBracket, RBracket}
 use Rattle.file_trees.specs.declared.decl_tree.DeclTree.{DeclTree}
@@ -12,7 +13,7 @@ use Rattle.file_syntax.specs.declared.state.Frame.{Frame}
 use Rattle.file_syntax.specs.declared.state.Frame.TheVariants.{Argument}
 use Rattle.file_syntax.specs.declared.state.State.{State}
 use Rattle.file_trees.specs.Trees.{Tree, abstraction, applied}
-use Rattle.file_syntax.specs.Productions.{joined_spans, IsBound, a_name, a_variable, IsTerm, abstracts, applies, IsArgument, name, variable, term, AreArguments, no_more, one_more}
+use Rattle.file_syntax.specs.Productions.{binder_of, IsBound, a_name, a_variable, IsTerm, abstracts, applies, IsArgument, name, variable, term, AreArguments, no_more, one_more}
 use Rattle.file_syntax.specs.Reading.{at_top, abstracted, no_argument, stepped}
 use Rattle.file_syntax.proofs.Abstractions.{abstracted_append}
 
@@ -34,7 +35,7 @@ pub record ArgumentsRead (terminals : List Terminal) (decls : List DeclTree) (fr
   pub shorter : length rest < length terminals
   pub go_on : Ends rest (no_argument decls frames owner (items ++ trees) next) final
 
-pub record TermRead (terminals : List Terminal) (decls : List DeclTree) (frames : List Frame) (binders : List Span) (owner : Owner) (items : List Tree) (final : List DeclTree) : Type 0 where
+pub record TermRead (terminals : List Terminal) (decls : List DeclTree) (frames : List Frame) (binders : List BinderSpan) (owner : Owner) (items : List Tree) (final : List DeclTree) : Type 0 where
   pub tree : Tree
   pub closing : Span
   pub rest : List Terminal
@@ -69,7 +70,7 @@ before {terminals = terminals} {after = after} {tree = tree} {decls = decls} {fr
     }
 
 -- a term that ends after its arguments
-close_arguments : (binders : List Span) {terminals after : List Terminal} {tree : Tree} {decls : List DeclTree} {frames : List Frame} {owner : Owner} {items : List Tree} {final : List DeclTree} →
+close_arguments : (binders : List BinderSpan) {terminals after : List Terminal} {tree : Tree} {decls : List DeclTree} {frames : List Frame} {owner : Owner} {items : List Tree} {final : List DeclTree} →
     IsArgument terminals after tree → length after < length terminals →
     ArgumentsRead after decls (Argument owner items ∷ frames) (of_term binders) (tree ∷ []) final →
     TermRead terminals decls frames binders owner items final
@@ -92,42 +93,42 @@ close_arguments binders {terminals = terminals} {after = after} {tree = tree} {d
 
 -- a bound name, and then a closing bracket
 data Bracketed : List Terminal → Span → List Terminal → Type 0 where
-  bracketed : (bound : Terminal) (closing : Span) (rest : List Terminal) → IsBound bound → Bracketed (bound ∷ RBracket closing ∷ rest) closing rest
+  bracketed : (bound : Terminal) (bound_name closing : Span) (rest : List Terminal) → IsBound bound bound_name → Bracketed (bound ∷ RBracket closing ∷ rest) bound_name rest
 
-record BracketRead (terminals : List Terminal) (decls : List DeclTree) (frames : List Frame) (binders : List Span) (opening : Span) (final : List DeclTree) : Type 0 where
-  closing : Span
+record BracketRead (terminals : List Terminal) (decls : List DeclTree) (frames : List Frame) (binders : List BinderSpan) (opening : Span) (final : List DeclTree) : Type 0 where
+  bound_name : Span
   rest : List Terminal
-  is : Bracketed terminals closing rest
-  go_on : Ends rest (at_top decls frames (Arguments (of_term (binders ++ joined_spans opening closing ∷ [])) [])) final
+  is : Bracketed terminals bound_name rest
+  go_on : Ends rest (at_top decls frames (Arguments (of_term (binders ++ binder_of opening bound_name ∷ [])) [])) final
 
-bracket_closed : (bound : Terminal) → IsBound bound → (terminals : List Terminal) {decls : List DeclTree} {frames : List Frame} {binders : List Span} {opening : Span} {final : List DeclTree} →
-    Ends terminals (at_top decls frames (AbsClose binders opening)) final → BracketRead (bound ∷ terminals) decls frames binders opening final
+bracket_closed : (bound : Terminal) {bound_name : Span} → IsBound bound bound_name → (terminals : List Terminal) {decls : List DeclTree} {frames : List Frame} {binders : List BinderSpan} {opening : Span} {final : List DeclTree} →
+    Ends terminals (at_top decls frames (AbsClose binders (binder_of opening bound_name))) final → BracketRead (bound ∷ terminals) decls frames binders opening final
 bracket_closed bound b [] h = cc
-bracket_closed bound b (RBracket closing ∷ rest) h = record { closing = closing; rest = rest; is = bracketed bound closing rest b; go_on = h }
+bracket_closed bound {bound_name = bound_name} b (RBracket closing ∷ rest) h = record { bound_name = bound_name; rest = rest; is = bracketed bound bound_name closing rest b; go_on = h }
 bracket_closed bound b (_ ∷ rest) h = absurd (ends_none rest _ h)
 
-bracket_read : (terminals : List Terminal) {decls : List DeclTree} {frames : List Frame} {binders : List Span} {opening : Span} {final : List DeclTree} →
+bracket_read : (terminals : List Terminal) {decls : List DeclTree} {frames : List Frame} {binders : List BinderSpan} {opening : Span} {final : List DeclTree} →
     Ends terminals (at_top decls frames (AbsName binders opening)) final → BracketRead terminals decls frames binders opening final
 bracket_read [] h = cc
 bracket_read (Word word span ∷ terminals) h = bracket_closed (Word word span) (a_name word span) terminals h
 bracket_read (Var span ∷ terminals) h = bracket_closed (Var span) (a_variable span) terminals h
 bracket_read (_ ∷ terminals) h = absurd (ends_none terminals _ h)
 
-abstracted_read : {terminals rest : List Terminal} {opening closing : Span} {binders : List Span} {decls : List DeclTree} {frames : List Frame} {owner : Owner} {items : List Tree} {final : List DeclTree} →
-    Bracketed terminals closing rest → TermRead rest decls frames (binders ++ joined_spans opening closing ∷ []) owner items final →
+abstracted_read : {terminals rest : List Terminal} {opening bound_name : Span} {binders : List BinderSpan} {decls : List DeclTree} {frames : List Frame} {owner : Owner} {items : List Tree} {final : List DeclTree} →
+    Bracketed terminals bound_name rest → TermRead rest decls frames (binders ++ binder_of opening bound_name ∷ []) owner items final →
     TermRead (LBracket opening ∷ terminals) decls frames binders owner items final
-abstracted_read {opening = opening} {binders = binders} {decls = decls} {frames = frames} {owner = owner} {items = items} {final = final} (bracketed bound closing rest b) r =
+abstracted_read {opening = opening} {binders = binders} {decls = decls} {frames = frames} {owner = owner} {items = items} {final = final} (bracketed bound bound_name closing rest b) r =
     record {
-      tree = abstraction (joined_spans opening closing) r.tree;
+      tree = abstraction (binder_of opening bound_name) r.tree;
       closing = r.closing;
       rest = r.rest;
-      is = abstracts opening closing bound rest (RParen r.closing ∷ r.rest) r.tree b r.is;
+      is = abstracts opening closing bound_name bound rest (RParen r.closing ∷ r.rest) r.tree b r.is;
       shorter = omega (arith, r.shorter);
-      go_on = subst (λ t. Ends r.rest (at_top decls frames (Arguments owner (items ++ t ∷ []))) final) (abstracted_append binders (joined_spans opening closing ∷ []) r.tree) r.go_on;
+      go_on = subst (λ t. Ends r.rest (at_top decls frames (Arguments owner (items ++ t ∷ []))) final) (abstracted_append binders (binder_of opening bound_name ∷ []) r.tree) r.go_on;
     }
 
-bracketed_shorter : {terminals rest : List Terminal} {closing : Span} → Bracketed terminals closing rest → length rest < length terminals
-bracketed_shorter (bracketed bound closing rest b) = omega arith
+bracketed_shorter : {terminals rest : List Terminal} {bound_name : Span} → Bracketed terminals bound_name rest → length rest < length terminals
+bracketed_shorter (bracketed bound bound_name closing rest b) = omega arith
 
 mutual
   pub arguments_read : (n : ℕ) (terminals : List Terminal) {decls : List DeclTree} {frames : List Frame} {owner : Owner} {items : List Tree} {final : List DeclTree} →
@@ -143,7 +144,7 @@ mutual
       before (term opening r.closing terminals r.rest r.tree r.is) (omega (arith, r.shorter)) (arguments_read n r.rest (omega (arith, r.shorter)) r.go_on)
   arguments_read (suc n) (next ∷ terminals) h e = stop next terminals e
 
-  pub term_read : (n : ℕ) (terminals : List Terminal) {decls : List DeclTree} {frames : List Frame} {binders : List Span} {owner : Owner} {items : List Tree} {final : List DeclTree} →
+  pub term_read : (n : ℕ) (terminals : List Terminal) {decls : List DeclTree} {frames : List Frame} {binders : List BinderSpan} {owner : Owner} {items : List Tree} {final : List DeclTree} →
       length terminals < n → Ends terminals (at_top decls (Argument owner items ∷ frames) (Arguments (of_term binders) [])) final →
       TermRead terminals decls frames binders owner items final
   term_read zero terminals h e = absurd (omega arith)

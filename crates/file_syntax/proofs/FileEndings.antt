@@ -330,7 +330,7 @@ theorem_declared first {decls = decls} {frames = frames} {final = final} (headed
         DeclRead (Word theorem_word first ∷ Word word named ∷ Colon colon ∷ terminals) decls frames final
     at_terminal classifier (Dot dot) rest is short go =
         record {
-          declaration = theorem_tree named classifier;
+          declaration = theorem_tree (record { name = named; statement = classifier });
           rest = rest;
           is = a_theorem first named colon dot word terminals rest classifier is;
           shorter = omega (arith, short);

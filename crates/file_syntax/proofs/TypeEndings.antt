@@ -1,6 +1,7 @@
 -- What a run that ends between two declarations has read of types and kinds.
 use Rattle.std.proofs.Common.{◌≡◌, ℕ, zero, suc, ◌<◌, false, if◌then◌else◌, List, [], ◌∷◌, ◌++◌, length, None, refl, subst, arith}
 use Rattle.file_trees.specs.declared.span.Span.{Span}
+use Rattle.file_trees.specs.declared.span.BinderSpan.{BinderSpan}
 use Rattle.file_syntax.specs.declared.terminal.Keyword.{Keyword}
 use Rattle.file_syntax.specs.declared.terminal.Terminal.{Terminal}
 use Rattle.file_syntax.specs.declared.terminal.Terminal.TheVariants.{TypeWord, Word, Var, Colon, Dot, Arrow, LParen, RParen, LBrace, RBrace}
@@ -12,7 +13,7 @@ use Rattle.file_syntax.specs.declared.state.Top.TheVariants.{Between, TypeStart,
 use Rattle.file_syntax.specs.declared.state.Frame.{Frame}
 use Rattle.file_syntax.specs.declared.state.Frame.TheVariants.{Declared, Brace, Group}
 use Rattle.file_trees.specs.Trees.{Tree, Classifier, pi, arrow, family, star, Binding, pi_of, arrow_of, bind}
-use Rattle.file_syntax.specs.Productions.{up_to, IsBound, a_name, a_variable, IsType, binds, ends, goes_to, IsSimple, family_of, group, IsKind, is_type, kind_binds, kind_goes_to}
+use Rattle.file_syntax.specs.Productions.{binder_of, IsBound, a_name, a_variable, IsType, binds, ends, goes_to, IsSimple, family_of, group, IsKind, is_type, kind_binds, kind_goes_to}
 use Rattle.file_syntax.specs.Reading.{at_top, close_type, no_argument, stands_at_kind}
 use Rattle.file_syntax.proofs.Abstractions.{bind_append}
 use Rattle.file_syntax.specs.Reading.{group_end}
@@ -20,18 +21,18 @@ use Rattle.file_syntax.proofs.Endings.{Ends, ends_none, ArgumentsRead, arguments
 
 -- a bound name, and then a colon
 data Named : List Terminal → Span → List Terminal → Type 0 where
-  named : (bound : Terminal) (colon : Span) (rest : List Terminal) → IsBound bound → Named (bound ∷ Colon colon ∷ rest) colon rest
+  named : (bound : Terminal) (name colon : Span) (rest : List Terminal) → IsBound bound name → Named (bound ∷ Colon colon ∷ rest) name rest
 
 record BraceRead (terminals : List Terminal) (decls : List DeclTree) (frames : List Frame) (bindings : List Binding) (opening : Span) (final : List DeclTree) : Type 0 where
-  colon : Span
+  name : Span
   rest : List Terminal
-  is : Named terminals colon rest
-  go_on : Ends rest (at_top decls (Brace bindings (up_to opening colon) ∷ frames) (TypeStart [])) final
+  is : Named terminals name rest
+  go_on : Ends rest (at_top decls (Brace bindings (binder_of opening name) ∷ frames) (TypeStart [])) final
 
-colon_read : (bound : Terminal) → IsBound bound → (terminals : List Terminal) {decls : List DeclTree} {frames : List Frame} {bindings : List Binding} {opening : Span} {final : List DeclTree} →
-    Ends terminals (at_top decls frames (PiColon bindings opening)) final → BraceRead (bound ∷ terminals) decls frames bindings opening final
+colon_read : (bound : Terminal) {name : Span} → IsBound bound name → (terminals : List Terminal) {decls : List DeclTree} {frames : List Frame} {bindings : List Binding} {opening : Span} {final : List DeclTree} →
+    Ends terminals (at_top decls frames (PiColon bindings (binder_of opening name))) final → BraceRead (bound ∷ terminals) decls frames bindings opening final
 colon_read bound b [] h = cc
-colon_read bound b (Colon colon ∷ rest) h = record { colon = colon; rest = rest; is = named bound colon rest b; go_on = h }
+colon_read bound {name = name} b (Colon colon ∷ rest) h = record { name = name; rest = rest; is = named bound name colon rest b; go_on = h }
 colon_read bound b (_ ∷ rest) h = absurd (ends_none rest _ h)
 
 brace_read : (terminals : List Terminal) {decls : List DeclTree} {frames : List Frame} {bindings : List Binding} {opening : Span} {final : List DeclTree} →
@@ -41,8 +42,8 @@ brace_read (Word word span ∷ terminals) h = colon_read (Word word span) (a_nam
 brace_read (Var span ∷ terminals) h = colon_read (Var span) (a_variable span) terminals h
 brace_read (_ ∷ terminals) h = absurd (ends_none terminals _ h)
 
-named_shorter : {terminals rest : List Terminal} {colon : Span} → Named terminals colon rest → length rest < length terminals
-named_shorter (named bound colon rest b) = omega arith
+named_shorter : {terminals rest : List Terminal} {name : Span} → Named terminals name rest → length rest < length terminals
+named_shorter (named bound name colon rest b) = omega arith
 
 pub record TypeRead (terminals : List Terminal) (decls : List DeclTree) (frames : List Frame) (bindings : List Binding) (final : List DeclTree) : Type 0 where
   pub classifier : Classifier
@@ -61,7 +62,7 @@ pub record SimpleRead (terminals : List Terminal) (decls : List DeclTree) (frame
   pub go_on : Ends rest (group_end decls frames bindings classifier next) final
 
 -- the domain of a binder, with its closing brace
-pub record DomainRead (terminals : List Terminal) (decls : List DeclTree) (frames : List Frame) (bindings : List Binding) (binder : Span) (final : List DeclTree) : Type 0 where
+pub record DomainRead (terminals : List Terminal) (decls : List DeclTree) (frames : List Frame) (bindings : List Binding) (binder : BinderSpan) (final : List DeclTree) : Type 0 where
   pub domain : Classifier
   pub closing : Span
   pub rest : List Terminal
@@ -69,7 +70,7 @@ pub record DomainRead (terminals : List Terminal) (decls : List DeclTree) (frame
   pub shorter : length rest < length terminals
   pub go_on : Ends rest (at_top decls frames (TypeStart (bindings ++ pi_of binder domain ∷ []))) final
 
-domain_read : {terminals : List Terminal} {decls : List DeclTree} {frames : List Frame} {bindings : List Binding} {binder : Span} {final : List DeclTree} →
+domain_read : {terminals : List Terminal} {decls : List DeclTree} {frames : List Frame} {bindings : List Binding} {binder : BinderSpan} {final : List DeclTree} →
     TypeRead terminals decls (Brace bindings binder ∷ frames) [] final → DomainRead terminals decls frames bindings binder final
 domain_read {terminals = terminals} {decls = decls} {frames = frames} {bindings = bindings} {binder = binder} {final = final} r =
     at_terminal r.classifier r.next r.rest r.is r.shorter r.go_on
@@ -146,18 +147,18 @@ type_after {terminals = terminals} {decls = decls} {frames = frames} {bindings =
     at_terminal classifier next rest is short go =
         record { classifier = classifier; next = next; rest = rest; is = ends terminals (next ∷ rest) classifier is; shorter = short; go_on = go }
 
-bound_type : {terminals after : List Terminal} {opening colon : Span} {decls : List DeclTree} {frames : List Frame} {bindings : List Binding} {final : List DeclTree} →
-    Named terminals colon after → (d : DomainRead after decls frames bindings (up_to opening colon) final) →
-    TypeRead d.rest decls frames (bindings ++ pi_of (up_to opening colon) d.domain ∷ []) final →
+bound_type : {terminals after : List Terminal} {opening name : Span} {decls : List DeclTree} {frames : List Frame} {bindings : List Binding} {final : List DeclTree} →
+    Named terminals name after → (d : DomainRead after decls frames bindings (binder_of opening name) final) →
+    TypeRead d.rest decls frames (bindings ++ pi_of (binder_of opening name) d.domain ∷ []) final →
     TypeRead (LBrace opening ∷ terminals) decls frames bindings final
-bound_type {opening = opening} {decls = decls} {frames = frames} {bindings = bindings} {final = final} (named bound colon after b) d t =
+bound_type {opening = opening} {decls = decls} {frames = frames} {bindings = bindings} {final = final} (named bound name colon after b) d t =
     record {
-      classifier = pi (up_to opening colon) d.domain t.classifier;
+      classifier = pi (binder_of opening name) d.domain t.classifier;
       next = t.next;
       rest = t.rest;
-      is = binds opening colon d.closing bound after d.rest (t.next ∷ t.rest) d.domain t.classifier b d.is t.is;
+      is = binds opening colon d.closing name bound after d.rest (t.next ∷ t.rest) d.domain t.classifier b d.is t.is;
       shorter = omega (arith, t.shorter, d.shorter);
-      go_on = subst (λ c. Ends t.rest (close_type decls frames c t.next) final) (bind_append bindings (pi_of (up_to opening colon) d.domain ∷ []) t.classifier) t.go_on;
+      go_on = subst (λ c. Ends t.rest (close_type decls frames c t.next) final) (bind_append bindings (pi_of (binder_of opening name) d.domain ∷ []) t.classifier) t.go_on;
     }
 
 pub type_read : (n : ℕ) (terminals : List Terminal) {decls : List DeclTree} {frames : List Frame} {bindings : List Binding} {final : List DeclTree} →
@@ -170,7 +171,7 @@ type_read (suc n) (TypeWord span ∷ terminals) {decls = decls} {frames = frames
 type_read (suc n) (LBrace opening ∷ terminals) {decls = decls} {frames = frames} {bindings = bindings} {final = final} h k e =
     let b : BraceRead terminals decls frames bindings opening final = brace_read terminals e in
     let short : length b.rest < length terminals = named_shorter b.is in
-    let d : DomainRead b.rest decls frames bindings (up_to opening b.colon) final = domain_read (type_read n b.rest (omega (arith, short)) refl b.go_on) in
+    let d : DomainRead b.rest decls frames bindings (binder_of opening b.name) final = domain_read (type_read n b.rest (omega (arith, short)) refl b.go_on) in
     bound_type b.is d (type_read n d.rest (omega (arith, short, d.shorter)) k d.go_on)
 type_read (suc n) (LParen opening ∷ terminals) {decls = decls} {frames = frames} {bindings = bindings} {final = final} h k e =
     type_after (group_read opening (type_read n terminals (omega arith) refl e)) (λ rest left short go. type_read n rest (omega (arith, short)) k go)
@@ -216,18 +217,18 @@ kind_after {terminals = terminals} {decls = decls} {family_name = family_name} {
         }
     at_terminal _ _ rest is short go = absurd (ends_none rest _ go)
 
-bound_kind : {terminals after : List Terminal} {opening colon : Span} {decls : List DeclTree} {family_name : Span} {frames : List Frame} {bindings : List Binding} {final : List DeclTree} →
-    Named terminals colon after → (d : DomainRead after decls (Declared goal_family family_name ∷ frames) bindings (up_to opening colon) final) →
-    KindRead d.rest decls family_name frames (bindings ++ pi_of (up_to opening colon) d.domain ∷ []) final →
+bound_kind : {terminals after : List Terminal} {opening name : Span} {decls : List DeclTree} {family_name : Span} {frames : List Frame} {bindings : List Binding} {final : List DeclTree} →
+    Named terminals name after → (d : DomainRead after decls (Declared goal_family family_name ∷ frames) bindings (binder_of opening name) final) →
+    KindRead d.rest decls family_name frames (bindings ++ pi_of (binder_of opening name) d.domain ∷ []) final →
     KindRead (LBrace opening ∷ terminals) decls family_name frames bindings final
-bound_kind {opening = opening} {decls = decls} {family_name = family_name} {frames = frames} {bindings = bindings} {final = final} (named bound colon after b) d t =
+bound_kind {opening = opening} {decls = decls} {family_name = family_name} {frames = frames} {bindings = bindings} {final = final} (named bound name colon after b) d t =
     record {
-      kind = pi (up_to opening colon) d.domain t.kind;
+      kind = pi (binder_of opening name) d.domain t.kind;
       dot = t.dot;
       rest = t.rest;
-      is = kind_binds opening colon d.closing bound after d.rest (Dot t.dot ∷ t.rest) d.domain t.kind b d.is t.is;
+      is = kind_binds opening colon d.closing name bound after d.rest (Dot t.dot ∷ t.rest) d.domain t.kind b d.is t.is;
       shorter = omega (arith, t.shorter, d.shorter);
-      go_on = subst (λ c. Ends t.rest (at_top (decls ++ family_tree family_name c ∷ []) frames Between) final) (bind_append bindings (pi_of (up_to opening colon) d.domain ∷ []) t.kind) t.go_on;
+      go_on = subst (λ c. Ends t.rest (at_top (decls ++ family_tree family_name c ∷ []) frames Between) final) (bind_append bindings (pi_of (binder_of opening name) d.domain ∷ []) t.kind) t.go_on;
     }
 
 pub kind_read : (n : ℕ) (terminals : List Terminal) {decls : List DeclTree} {family_name : Span} {frames : List Frame} {bindings : List Binding} {final : List DeclTree} →
@@ -239,7 +240,7 @@ kind_read (suc n) (TypeWord span ∷ terminals) h e = star_read span terminals e
 kind_read (suc n) (LBrace opening ∷ terminals) {decls = decls} {family_name = family_name} {frames = frames} {bindings = bindings} {final = final} h e =
     let b : BraceRead terminals decls (Declared goal_family family_name ∷ frames) bindings opening final = brace_read terminals e in
     let short : length b.rest < length terminals = named_shorter b.is in
-    let d : DomainRead b.rest decls (Declared goal_family family_name ∷ frames) bindings (up_to opening b.colon) final =
+    let d : DomainRead b.rest decls (Declared goal_family family_name ∷ frames) bindings (binder_of opening b.name) final =
     domain_read (type_read n b.rest (omega (arith, short)) refl b.go_on) in
     bound_kind b.is d (kind_read n d.rest (omega (arith, short, d.shorter)) d.go_on)
 kind_read (suc n) (LParen opening ∷ terminals) h e =

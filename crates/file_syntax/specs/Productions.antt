@@ -2,6 +2,7 @@
 -- `IsTerm terminals rest tree` says that the terminals are a term with this tree, and then `rest`.
 use Rattle.std.specs.Prelude.{List, [], ◌∷◌, Option, Some, None}
 use Rattle.file_trees.specs.declared.span.Span.{Span}
+use Rattle.file_trees.specs.declared.span.BinderSpan.{BinderSpan}
 use Rattle.file_syntax.specs.declared.terminal.Keyword.{Keyword}
 use Rattle.file_syntax.specs.declared.terminal.Keyword.TheVariants.{Family as family_word, Const as const_word, Theorem as theorem_word, Data as data_word, Rule as rule_word, Norm as norm_word, Safe as safe_word, Unsafe as unsafe_word, Apply as apply_word, Constructors as constructors_word, Cases as cases_word, Forward as forward_word, Destruct as destruct_word, At as at_word, In as in_word}
 use Rattle.file_syntax.specs.declared.terminal.Terminal.{Terminal}
@@ -14,25 +15,21 @@ use Rattle.file_trees.specs.declared.decl_tree.DeclTree.{DeclTree}
 use Rattle.file_trees.specs.declared.decl_tree.DeclTree.TheVariants.{Family as family_tree, Const as const_tree, Theorem as theorem_tree, Rule as rule_tree, Ctors as ctors_tree}
 use Rattle.file_trees.specs.Trees.{Tree, leaf, abstraction, applied, Classifier, pi, arrow, family, star}
 
--- from the start of one part through the end of another
-abbrev pub joined_spans : Span → Span → Span
-joined_spans first last = record { start = first.start; end = last.end }
+-- bound = name | Var, at this span
+pub data IsBound : Terminal → Span → Type 0 where
+  a_name : (word : Keyword) (span : Span) → IsBound (Word word span) span
+  a_variable : (span : Span) → IsBound (Var span) span
 
--- from the start of one part up to the start of another
-abbrev pub up_to : Span → Span → Span
-up_to first after = record { start = first.start; end = after.start }
-
--- bound = name | Var
-pub data IsBound : Terminal → Type 0 where
-  a_name : (word : Keyword) (span : Span) → IsBound (Word word span)
-  a_variable : (span : Span) → IsBound (Var span)
+-- the binder that opens with a bracket or a brace, and binds a name
+abbrev pub binder_of : Span → Span → BinderSpan
+binder_of opening name = record { opening = opening.start; name = name }
 
 mutual
   -- term = "[" bound "]" term | arg arg*
   pub data IsTerm : List Terminal → List Terminal → Tree → Type 0 where
-    abstracts : (opening closing : Span) (bound : Terminal) (inside rest : List Terminal) (body : Tree) →
-        IsBound bound → IsTerm inside rest body →
-        IsTerm (LBracket opening ∷ bound ∷ RBracket closing ∷ inside) rest (abstraction (joined_spans opening closing) body)
+    abstracts : (opening closing name : Span) (bound : Terminal) (inside rest : List Terminal) (body : Tree) →
+        IsBound bound name → IsTerm inside rest body →
+        IsTerm (LBracket opening ∷ bound ∷ RBracket closing ∷ inside) rest (abstraction (binder_of opening name) body)
     applies : (terminals after rest : List Terminal) (tree : Tree) (arguments : List Tree) →
         IsArgument terminals after tree → AreArguments after rest arguments →
         IsTerm terminals rest (applied tree arguments)
@@ -55,9 +52,9 @@ mutual
 mutual
   -- type = "{" bound ":" type "}" type | simple [ "->" type ]
   pub data IsType : List Terminal → List Terminal → Classifier → Type 0 where
-    binds : (opening colon closing : Span) (bound : Terminal) (inside after rest : List Terminal) (domain body : Classifier) →
-        IsBound bound → IsType inside (RBrace closing ∷ after) domain → IsType after rest body →
-        IsType (LBrace opening ∷ bound ∷ Colon colon ∷ inside) rest (pi (up_to opening colon) domain body)
+    binds : (opening colon closing name : Span) (bound : Terminal) (inside after rest : List Terminal) (domain body : Classifier) →
+        IsBound bound name → IsType inside (RBrace closing ∷ after) domain → IsType after rest body →
+        IsType (LBrace opening ∷ bound ∷ Colon colon ∷ inside) rest (pi (binder_of opening name) domain body)
     ends : (terminals rest : List Terminal) (last : Classifier) → IsSimple terminals rest last → IsType terminals rest last
     goes_to : (terminals after rest : List Terminal) (span : Span) (left right : Classifier) →
         IsSimple terminals (Arrow span ∷ after) left → IsType after rest right →
@@ -75,9 +72,9 @@ mutual
 -- kind = "type" | "{" bound ":" type "}" kind | simple "->" kind
 pub data IsKind : List Terminal → List Terminal → Classifier → Type 0 where
   is_type : (span : Span) (rest : List Terminal) → IsKind (TypeWord span ∷ rest) rest (star span)
-  kind_binds : (opening colon closing : Span) (bound : Terminal) (inside after rest : List Terminal) (domain body : Classifier) →
-      IsBound bound → IsType inside (RBrace closing ∷ after) domain → IsKind after rest body →
-      IsKind (LBrace opening ∷ bound ∷ Colon colon ∷ inside) rest (pi (up_to opening colon) domain body)
+  kind_binds : (opening colon closing name : Span) (bound : Terminal) (inside after rest : List Terminal) (domain body : Classifier) →
+      IsBound bound name → IsType inside (RBrace closing ∷ after) domain → IsKind after rest body →
+      IsKind (LBrace opening ∷ bound ∷ Colon colon ∷ inside) rest (pi (binder_of opening name) domain body)
   kind_goes_to : (terminals after rest : List Terminal) (span : Span) (left right : Classifier) →
       IsSimple terminals (Arrow span ∷ after) left → IsKind after rest right →
       IsKind terminals rest (arrow left right)
@@ -124,7 +121,7 @@ pub data IsDecl : List Terminal → List Terminal → DeclTree → Type 0 where
       IsDecl (Word const_word first ∷ Word word name ∷ Colon colon ∷ terminals) rest (const_tree name classifier)
   a_theorem : (first name colon dot : Span) (word : Keyword) (terminals rest : List Terminal) (classifier : Classifier) →
       IsType terminals (Dot dot ∷ rest) classifier →
-      IsDecl (Word theorem_word first ∷ Word word name ∷ Colon colon ∷ terminals) rest (theorem_tree name classifier)
+      IsDecl (Word theorem_word first ∷ Word word name ∷ Colon colon ∷ terminals) rest (theorem_tree (record { name = name; statement = classifier }))
   some_data : (first name equals dot : Span) (word : Keyword) (terminals rest : List Terminal) (names : List Span) →
       AreNames terminals (Dot dot ∷ rest) names →
       IsDecl (Word data_word first ∷ Word word name ∷ Equals equals ∷ terminals) rest (ctors_tree name names)
@@ -133,7 +130,7 @@ pub data IsDecl : List Terminal → List Terminal → DeclTree → Type 0 where
       IsPhase phase_word phase → IsBuilder builder_word builder → IsMajorPart terminals after major → IsSet after (Dot dot ∷ rest) set →
       IsDecl (Word rule_word first ∷ Word word name ∷ Colon colon ∷ Word phase_word phase_span ∷ Number number
       ∷ Word builder_word builder_span ∷ Word other subject ∷ terminals) rest
-      (rule_tree name phase number builder subject major set)
+      (rule_tree (record { name = name; phase = phase; number = number; builder = builder; subject = subject; major = major; set = set }))
 
 -- file = decl*
 pub data IsFile : List Terminal → List DeclTree → Type 0 where

@@ -2,6 +2,7 @@
 -- Only contracts of private functions cite these definitions. What `parse` promises is stated without them, by the grammar.
 use Rattle.std.specs.Prelude.{Bool, true, false, if◌then◌else◌, List, [], ◌∷◌, ◌++◌, Option, Some, None}
 use Rattle.file_trees.specs.declared.span.Span.{Span}
+use Rattle.file_trees.specs.declared.span.BinderSpan.{BinderSpan}
 use Rattle.file_syntax.specs.declared.terminal.Keyword.{Keyword}
 use Rattle.file_syntax.specs.declared.terminal.Keyword.TheVariants.{Family as family_word, Const as const_word, Theorem as theorem_word, Data as data_word, Rule as rule_word, Norm as norm_word, Safe as safe_word, Unsafe as unsafe_word, Apply as apply_word, Constructors as constructors_word, Cases as cases_word, Forward as forward_word, Destruct as destruct_word, At as at_word, In as in_word}
 use Rattle.file_syntax.specs.declared.terminal.Terminal.{Terminal}
@@ -24,7 +25,7 @@ use Rattle.file_syntax.specs.declared.state.Top.TheVariants.{Between, GoalName, 
 use Rattle.file_syntax.specs.declared.state.Frame.{Frame}
 use Rattle.file_syntax.specs.declared.state.Frame.TheVariants.{Declared, Brace, Group, Argument}
 use Rattle.file_syntax.specs.declared.state.State.{State}
-use Rattle.file_syntax.specs.Productions.{joined_spans, up_to}
+use Rattle.file_syntax.specs.Productions.{binder_of}
 use Rattle.file_trees.specs.Trees.{Tree, leaf, abstraction, applied, Classifier, family, star, Binding, pi_of, arrow_of, bind}
 
 abbrev pub at_top : List DeclTree → List Frame → Top → Option State
@@ -98,7 +99,8 @@ next_part part (Colon span) = next_colon part
 next_part part _ = None
 
 abbrev pub rule_from : RuleHead → Option Span → Option Span → DeclTree
-rule_from rule major set = rule_tree rule.name rule.phase rule.number rule.builder rule.subject major set
+rule_from rule major set =
+    rule_tree (record { name = rule.name; phase = rule.phase; number = rule.number; builder = rule.builder; subject = rule.subject; major = major; set = set })
 
 -- the rule that may end here
 abbrev pub ended_rule : RulePart → Option DeclTree
@@ -162,21 +164,21 @@ type_start decls frames bindings (Word word span) = at_top decls frames (Argumen
 type_start decls frames bindings _ = None
 
 abbrev pub pi_name : List DeclTree → List Frame → List Binding → Span → Terminal → Option State
-pi_name decls frames bindings brace (Word word span) = at_top decls frames (PiColon bindings brace)
-pi_name decls frames bindings brace (Var span) = at_top decls frames (PiColon bindings brace)
+pi_name decls frames bindings brace (Word word span) = at_top decls frames (PiColon bindings (binder_of brace span))
+pi_name decls frames bindings brace (Var span) = at_top decls frames (PiColon bindings (binder_of brace span))
 pi_name decls frames bindings brace _ = None
 
-abbrev pub pi_colon : List DeclTree → List Frame → List Binding → Span → Terminal → Option State
-pi_colon decls frames bindings brace (Colon span) = at_top decls (Brace bindings (up_to brace span) ∷ frames) (TypeStart [])
-pi_colon decls frames bindings brace _ = None
+abbrev pub pi_colon : List DeclTree → List Frame → List Binding → BinderSpan → Terminal → Option State
+pi_colon decls frames bindings binder (Colon span) = at_top decls (Brace bindings binder ∷ frames) (TypeStart [])
+pi_colon decls frames bindings binder _ = None
 
 -- a declaration of a type
 abbrev pub typed : Purpose → Span → Classifier → Option DeclTree
 typed a_family name classifier = None
 typed a_const name classifier = Some (const_tree name classifier)
-typed a_theorem name classifier = Some (theorem_tree name classifier)
+typed a_theorem name classifier = Some (theorem_tree (record { name = name; statement = classifier }))
 
-abbrev pub close_brace : List DeclTree → List Frame → List Binding → Span → Classifier → Option State
+abbrev pub close_brace : List DeclTree → List Frame → List Binding → BinderSpan → Classifier → Option State
 close_brace decls frames bindings binder classifier = at_top decls frames (TypeStart (bindings ++ pi_of binder classifier ∷ []))
 
 abbrev pub past_arrow : List DeclTree → List Frame → List Binding → Classifier → Option State
@@ -205,9 +207,9 @@ abbrev pub more_arguments : List DeclTree → List Frame → Owner → List Tree
 more_arguments decls frames owner arguments argument = at_top decls frames (Arguments owner (arguments ++ argument ∷ []))
 
 -- the term under its abstractions, the outermost first
-abbrev pub abstracted : List Span → Tree → Tree
+abbrev pub abstracted : List BinderSpan → Tree → Tree
 abstracted [] tree = tree
-abstracted (span ∷ spans) tree = abstraction span (abstracted spans tree)
+abstracted (binder ∷ binders) tree = abstraction binder (abstracted binders tree)
 
 -- The term ends.
 abbrev pub close_term : List DeclTree → List Frame → Tree → Option State
@@ -218,7 +220,7 @@ abbrev pub family_arguments : List DeclTree → List Frame → List Binding → 
 family_arguments decls frames bindings head arguments (Arrow span) = past_arrow decls frames bindings (family head arguments)
 family_arguments decls frames bindings head arguments terminal = close_type decls frames (bind bindings (family head arguments)) terminal
 
-abbrev pub term_arguments : List DeclTree → List Frame → List Span → List Tree → Terminal → Option State
+abbrev pub term_arguments : List DeclTree → List Frame → List BinderSpan → List Tree → Terminal → Option State
 term_arguments decls frames binders [] (LBracket span) = at_top decls frames (AbsName binders span)
 term_arguments decls frames binders (tree ∷ arguments) (RParen span) =
     close_term decls frames (abstracted binders (applied tree arguments))
@@ -235,15 +237,14 @@ among_arguments decls frames owner arguments (LParen span) =
     at_top decls (Argument owner arguments ∷ frames) (Arguments (of_term []) [])
 among_arguments decls frames owner arguments terminal = no_argument decls frames owner arguments terminal
 
-abbrev pub abs_name : List DeclTree → List Frame → List Span → Span → Terminal → Option State
-abs_name decls frames binders bracket (Word word span) = at_top decls frames (AbsClose binders bracket)
-abs_name decls frames binders bracket (Var span) = at_top decls frames (AbsClose binders bracket)
+abbrev pub abs_name : List DeclTree → List Frame → List BinderSpan → Span → Terminal → Option State
+abs_name decls frames binders bracket (Word word span) = at_top decls frames (AbsClose binders (binder_of bracket span))
+abs_name decls frames binders bracket (Var span) = at_top decls frames (AbsClose binders (binder_of bracket span))
 abs_name decls frames binders bracket _ = None
 
-abbrev pub abs_close : List DeclTree → List Frame → List Span → Span → Terminal → Option State
-abs_close decls frames binders bracket (RBracket span) =
-    at_top decls frames (Arguments (of_term (binders ++ joined_spans bracket span ∷ [])) [])
-abs_close decls frames binders bracket _ = None
+abbrev pub abs_close : List DeclTree → List Frame → List BinderSpan → BinderSpan → Terminal → Option State
+abs_close decls frames binders binder (RBracket span) = at_top decls frames (Arguments (of_term (binders ++ binder ∷ [])) [])
+abs_close decls frames binders binder _ = None
 
 abbrev pub move : List DeclTree → List Frame → Top → Terminal → Option State
 move decls frames Between terminal = between decls frames terminal
@@ -255,12 +256,12 @@ move decls frames (DataNames name names) terminal = data_names decls frames name
 move decls frames (InRule part) terminal = in_rule decls frames part terminal
 move decls frames (TypeStart bindings) terminal = type_start decls frames bindings terminal
 move decls frames (PiName bindings brace) terminal = pi_name decls frames bindings brace terminal
-move decls frames (PiColon bindings brace) terminal = pi_colon decls frames bindings brace terminal
+move decls frames (PiColon bindings binder) terminal = pi_colon decls frames bindings binder terminal
 move decls frames (GroupEnd bindings inner) terminal = group_end decls frames bindings inner terminal
 move decls frames (StarEnd bindings word) terminal = star_end decls frames bindings word terminal
 move decls frames (Arguments owner arguments) terminal = among_arguments decls frames owner arguments terminal
 move decls frames (AbsName binders bracket) terminal = abs_name decls frames binders bracket terminal
-move decls frames (AbsClose binders bracket) terminal = abs_close decls frames binders bracket terminal
+move decls frames (AbsClose binders binder) terminal = abs_close decls frames binders binder terminal
 
 -- The state after the terminal, or none where it is refused.
 abbrev pub step : State → Terminal → Option State

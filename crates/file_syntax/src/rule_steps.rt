@@ -5,7 +5,7 @@ ghost use Rattle.file_syntax.specs.Reading.{phase_of, builder_word, next_part, n
 
 use crate::state::{RuleHead, RulePart, State, StepFault, Top};
 use crate::terminal::{Keyword, Terminal};
-use file_trees::{BuildWord, DeclTree, PhaseWord, Span};
+use file_trees::{BuildWord, DeclTree, PhaseWord, RuleTree, Span};
 
 fn phase_of(word: Keyword) -> Option<PhaseWord>
     ensures { result ≡ phase_of word }
@@ -120,15 +120,15 @@ fn next_colon(part: RulePart) -> Option<RulePart>
 fn rule_from(rule: RuleHead, major: Option<Span>, set: Option<Span>) -> DeclTree
     ensures { result ≡ rule_from rule major set }
 {
-    DeclTree::Rule(
-        rule.name,
-        rule.phase,
-        rule.number,
-        rule.builder,
-        rule.subject,
+    DeclTree::Rule(RuleTree {
+        name: rule.name,
+        phase: rule.phase,
+        number: rule.number,
+        builder: rule.builder,
+        subject: rule.subject,
         major,
         set,
-    )
+    })
 }
 
 /// The rule, if it may end after this part.

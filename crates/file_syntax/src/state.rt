@@ -1,9 +1,9 @@
 //! How far the tokens read so far have come in a file.
 
-ghost use Rattle.std.specs.Prelude.{◌≡◌, [], ◌∷◌, IfOk, MatchOption};
+ghost use Rattle.std.specs.Prelude.{◌≡◌, [], ◌∷◌, OnOk, OnErr, MatchOption};
 ghost use Rattle.file_syntax.specs.Reading.{stands_at_kind};
 
-use file_trees::{Binders, BuildWord, DeclTrees, PhaseWord, Span, Spans, TermTrees, TypeTree};
+use file_trees::{BinderSpan, BinderSpans, Binders, BuildWord, DeclTrees, PhaseWord, Span, Spans, TermTrees, TypeTree};
 use std::alloc::{AllocError, Global};
 use std::marker::Model;
 
@@ -46,7 +46,7 @@ pub(crate) enum RulePart {
 #[derive(Drop)]
 pub(crate) enum Owner {
     Family(Binders, Span),
-    Term(Spans),
+    Term(BinderSpans),
 }
 
 /// What is being read.
@@ -67,15 +67,15 @@ pub(crate) enum Top {
     TypeStart(Binders),
     /// After the brace of a binder, and after its name.
     PiName(Binders, Span),
-    PiColon(Binders, Span),
+    PiColon(Binders, BinderSpan),
     /// After a type in parentheses, and after the word `type`.
     GroupEnd(Binders, TypeTree),
     StarEnd(Binders, Span),
     /// Among arguments.
     Arguments(Owner, TermTrees),
     /// After the bracket of an abstraction, and after its name.
-    AbsName(Spans, Span),
-    AbsClose(Spans, Span),
+    AbsName(BinderSpans, Span),
+    AbsClose(BinderSpans, BinderSpan),
 }
 
 /// What is open: a declaration up to its end, a binder up to its closing brace, a type or an
@@ -83,7 +83,7 @@ pub(crate) enum Top {
 #[derive(Drop)]
 pub(crate) enum Frame {
     Declared(Purpose, Span),
-    Brace(Binders, Span),
+    Brace(Binders, BinderSpan),
     Group(Binders),
     Argument(Owner, TermTrees),
 }
@@ -145,9 +145,10 @@ impl Frames {
         }
     }
 
-    /// Opens one more.
+    /// Opens one more. What is open is as it was where memory is refused.
     pub(crate) fn push(&mut self, frame: Frame) -> Result<(), AllocError>
-        ensures { IfOk result (λ _. self.new ≡ frame ∷ self.old) }
+        ensures ok { OnOk result (self.new ≡ frame ∷ self.old) }
+        ensures err { OnErr result (self.new ≡ self.old) }
     {
         self.items.push(frame)?;
         Ok(())

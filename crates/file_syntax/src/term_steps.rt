@@ -8,7 +8,7 @@ ghost use Rattle.file_trees.specs.TermViews.{tree_of};
 use crate::state::{Frame, Owner, State, StepFault, Top};
 use crate::terminal::Terminal;
 use crate::type_steps::{close_type, past_arrow};
-use file_trees::{Binders, Part, Span, Spans, TermTree, TermTrees, TypeTree};
+use file_trees::{BinderSpan, BinderSpans, Binders, Part, Span, TermTree, TermTrees, TypeTree};
 use std::alloc::{AllocError, Global};
 
 /// One more argument is read.
@@ -39,13 +39,17 @@ fn applied(alloc: Global, head: TermTree, arguments: TermTrees) -> Result<TermTr
 
 /// The term under its abstractions.
 #[tactic(auto, using(crate::proofs::Abstractions::abstracted_append))]
-fn abstracted(alloc: Global, mut spans: Spans, term: TermTree) -> Result<TermTree, AllocError>
-    ensures { IfOk result (λ whole. tree_of whole ≡ abstracted spans (tree_of term)) }
+fn abstracted(
+    alloc: Global,
+    mut binders: BinderSpans,
+    term: TermTree,
+) -> Result<TermTree, AllocError>
+    ensures { IfOk result (λ whole. tree_of whole ≡ abstracted binders (tree_of term)) }
 {
     let mut whole = term;
-    while let Some(span) = spans.pop() {
+    while let Some(binder) = binders.pop() {
         let body = Part::new(alloc, whole)?;
-        whole = TermTree::Abs(span, body);
+        whole = TermTree::Abs(binder, body);
     }
     Ok(whole)
 }
@@ -85,7 +89,7 @@ fn family_arguments(
 fn term_arguments(
     alloc: Global,
     state: &mut State,
-    binders: Spans,
+    binders: BinderSpans,
     arguments: TermTrees,
     terminal: Terminal,
 ) -> Result<(), StepFault>
@@ -141,7 +145,7 @@ pub(crate) fn among_arguments(
         Terminal::Var(span) => more_arguments(state, owner, arguments, TermTree::Leaf(span)),
         Terminal::LParen(_) => {
             state.frames.push(Frame::Argument(owner, arguments))?;
-            state.top = Top::Arguments(Owner::Term(Spans::new(alloc)), TermTrees::new(alloc));
+            state.top = Top::Arguments(Owner::Term(BinderSpans::new(alloc)), TermTrees::new(alloc));
             Ok(())
         }
         _ => no_argument(alloc, state, owner, arguments, terminal),
@@ -151,7 +155,7 @@ pub(crate) fn among_arguments(
 /// After the bracket of an abstraction.
 pub(crate) fn abs_name(
     state: &mut State,
-    binders: Spans,
+    binders: BinderSpans,
     bracket: Span,
     terminal: Terminal,
 ) -> Result<(), StepFault>
@@ -159,8 +163,9 @@ pub(crate) fn abs_name(
     ensures refused { IsErrOf result StepFault.Refused → abs_name state.old.decls state.old.frames binders bracket terminal ≡ None }
 {
     match terminal {
-        Terminal::Word(_, _) | Terminal::Var(_) => {
-            state.top = Top::AbsClose(binders, bracket);
+        Terminal::Word(_, name) | Terminal::Var(name) => {
+            let opening = bracket.start;
+            state.top = Top::AbsClose(binders, BinderSpan { opening, name });
             Ok(())
         }
         _ => Err(StepFault::Refused),
@@ -171,20 +176,17 @@ pub(crate) fn abs_name(
 pub(crate) fn abs_close(
     alloc: Global,
     state: &mut State,
-    mut binders: Spans,
-    bracket: Span,
+    mut binders: BinderSpans,
+    binder: BinderSpan,
     terminal: Terminal,
 ) -> Result<(), StepFault>
-    ensures ok { IfOk result (λ _. abs_close state.old.decls state.old.frames binders bracket terminal ≡ Some state.new) }
-    ensures refused { IsErrOf result StepFault.Refused → abs_close state.old.decls state.old.frames binders bracket terminal ≡ None }
+    ensures ok { IfOk result (λ _. abs_close state.old.decls state.old.frames binders binder terminal ≡ Some state.new) }
+    ensures refused { IsErrOf result StepFault.Refused → abs_close state.old.decls state.old.frames binders binder terminal ≡ None }
 {
-    let Terminal::RBracket(close) = terminal else {
+    let Terminal::RBracket(_) = terminal else {
         return Err(StepFault::Refused);
     };
-    binders.push(Span {
-        start: bracket.start,
-        end: close.end,
-    })?;
+    binders.push(binder)?;
     state.top = Top::Arguments(Owner::Term(binders), TermTrees::new(alloc));
     Ok(())
 }

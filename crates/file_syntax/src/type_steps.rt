@@ -7,7 +7,7 @@ ghost use Rattle.file_trees.specs.Trees.{bind, star};
 use crate::rule_steps::ended;
 use crate::state::{Frame, Owner, Purpose, State, StepFault, Top};
 use crate::terminal::Terminal;
-use file_trees::{Binder, Binders, DeclTree, Span, TermTrees, TypeTree};
+use file_trees::{Binder, BinderSpan, Binders, DeclTree, Span, TermTrees, TheoremTree, TypeTree};
 use std::alloc::Global;
 
 /// Before a part of a type.
@@ -52,8 +52,9 @@ pub(crate) fn pi_name(
     ensures refused { IsErrOf result StepFault.Refused → pi_name state.old.decls state.old.frames binders brace terminal ≡ None }
 {
     match terminal {
-        Terminal::Word(_, _) | Terminal::Var(_) => {
-            state.top = Top::PiColon(binders, brace);
+        Terminal::Word(_, name) | Terminal::Var(name) => {
+            let opening = brace.start;
+            state.top = Top::PiColon(binders, BinderSpan { opening, name });
             Ok(())
         }
         _ => Err(StepFault::Refused),
@@ -65,18 +66,14 @@ pub(crate) fn pi_colon(
     alloc: Global,
     state: &mut State,
     binders: Binders,
-    brace: Span,
+    binder: BinderSpan,
     terminal: Terminal,
 ) -> Result<(), StepFault>
-    ensures ok { IfOk result (λ _. pi_colon state.old.decls state.old.frames binders brace terminal ≡ Some state.new) }
-    ensures refused { IsErrOf result StepFault.Refused → pi_colon state.old.decls state.old.frames binders brace terminal ≡ None }
+    ensures ok { IfOk result (λ _. pi_colon state.old.decls state.old.frames binders binder terminal ≡ Some state.new) }
+    ensures refused { IsErrOf result StepFault.Refused → pi_colon state.old.decls state.old.frames binders binder terminal ≡ None }
 {
-    let Terminal::Colon(colon) = terminal else {
+    let Terminal::Colon(_) = terminal else {
         return Err(StepFault::Refused);
-    };
-    let binder = Span {
-        start: brace.start,
-        end: colon.start,
     };
     state.frames.push(Frame::Brace(binders, binder))?;
     state.top = Top::TypeStart(Binders::new(alloc));
@@ -90,7 +87,10 @@ fn typed(goal: Purpose, name: Span, tree: TypeTree) -> Option<DeclTree>
     match goal {
         Purpose::Family => None,
         Purpose::Const => Some(DeclTree::Const(name, tree)),
-        Purpose::Theorem => Some(DeclTree::Theorem(name, tree)),
+        Purpose::Theorem => Some(DeclTree::Theorem(TheoremTree {
+            name,
+            statement: tree,
+        })),
     }
 }
 
@@ -98,7 +98,7 @@ fn typed(goal: Purpose, name: Span, tree: TypeTree) -> Option<DeclTree>
 fn close_brace(
     state: &mut State,
     mut binders: Binders,
-    binder: Span,
+    binder: BinderSpan,
     tree: TypeTree,
 ) -> Result<(), StepFault>
     ensures ok { IfOk result (λ _. close_brace state.old.decls state.old.frames binders binder tree ≡ Some state.new) }

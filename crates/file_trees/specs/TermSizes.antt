@@ -15,7 +15,7 @@ applied_size tree [] = omega arith
 applied_size tree (t ∷ ts) = omega (arith, applied_size (apply tree t) ts)
 
 term_falls : (t : TermTree) → deep-TermTree t ≤ tree_size (tree_of t)
-term_falls (Abs span body) = omega arith
+term_falls (Abs binder body) = omega arith
 term_falls (App first arguments) = omega (arith, applied_size (head first) arguments)
 term_falls (Leaf span) = omega arith
 

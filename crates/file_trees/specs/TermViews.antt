@@ -6,7 +6,7 @@ use Rattle.file_trees.specs.declared.term_tree.TermTree.TheVariants.{Abs, App, L
 
 -- the term, whose parts are trees already
 abbrev pub tree_of : TermTree → Tree
-tree_of (Abs span body) = abstraction span body
+tree_of (Abs binder body) = abstraction binder body
 tree_of (App first arguments) = apply_all (head first) arguments
 tree_of (Leaf span) = leaf span
 

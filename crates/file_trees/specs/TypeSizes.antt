@@ -13,24 +13,24 @@ use Rattle.file_trees.specs.declared.type_tree.Binders.TheInside as binders
 use Rattle.file_trees.specs.declared.type_tree.Binders.TheDeep.{deep-TypeTree, deep-Binder, deep-Binders}
 
 pub some_size : (c : Classifier) → 0 < classifier_size c
-some_size (pi span domain rest) = omega arith
+some_size (pi binder domain rest) = omega arith
 some_size (arrow left right) = omega arith
 some_size (family span arguments) = omega arith
 some_size (star span) = omega arith
 
 pub bound_size : (bindings : List Binding) (last : Classifier) → bindings_size bindings + classifier_size last ≤ classifier_size (bind bindings last)
 bound_size [] last = omega arith
-bound_size (pi_of span domain ∷ bindings) last = omega (arith, bound_size bindings last)
+bound_size (pi_of binder domain ∷ bindings) last = omega (arith, bound_size bindings last)
 bound_size (arrow_of left ∷ bindings) last = omega (arith, bound_size bindings last)
 
 some_bindings : (bindings : List Binding) → bindings ≢ [] → 1 < bindings_size bindings
 some_bindings [] h = absurd (h refl)
-some_bindings (pi_of span domain ∷ bindings) h = omega arith
+some_bindings (pi_of binder domain ∷ bindings) h = omega arith
 some_bindings (arrow_of left ∷ bindings) h = omega arith
 
 items_fall : (bs : List Binder) → most deep-Binder bs ≤ bindings_size (bindings_of bs)
 items_fall [] = omega arith
-items_fall (Pi span domain ∷ bs) = omega (arith, items_fall bs)
+items_fall (Pi binder domain ∷ bs) = omega (arith, items_fall bs)
 items_fall (Arrow left ∷ bs) = omega (arith, items_fall bs)
 
 pub binders_fall : (a : binders.Inside) → deep-Binders a ≤ bindings_size (bindings_of a.items.items)

@@ -7,7 +7,7 @@ use Rattle.file_trees.specs.declared.type_tree.Last.{Last}
 use Rattle.file_trees.specs.declared.type_tree.Last.TheVariants.{Fam, Star, Group}
 
 abbrev pub binding_of : Binder → Binding
-binding_of (Pi span domain) = pi_of span domain
+binding_of (Pi binder domain) = pi_of binder domain
 binding_of (Arrow left) = arrow_of left
 
 abbrev pub bindings_of : List Binder → List Binding

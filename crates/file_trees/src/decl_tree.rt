@@ -1,6 +1,6 @@
 //! Declarations as they are written.
 
-ghost use Rattle.std.specs.Prelude.{◌≡◌, ◌++◌, [], ◌∷◌, IfOk, length};
+ghost use Rattle.std.specs.Prelude.{◌≡◌, ◌++◌, [], ◌∷◌, OnOk, OnErr, length};
 
 use crate::span::Span;
 use crate::spans::Spans;
@@ -26,15 +26,34 @@ pub enum BuildWord {
     Destruct,
 }
 
-/// A declaration by the spans of its parts: a family, a constant or a theorem with its name; a rule
-/// with its name, phase, number, builder, subject, the number after `at` and the name after `in`;
-/// the constants of a family, as a `data` declaration lists them.
+/// A theorem: its name and the type that it states.
+#[derive(Drop)]
+pub struct TheoremTree {
+    pub name: Span,
+    pub statement: TypeTree,
+}
+
+/// A rule: its name, when it is tried, its number, how it is made, the name of what it is made of,
+/// the number after `at`, and the name after `in`.
+#[derive(Clone, Copy, Debug, PartialEq, Eq)]
+pub struct RuleTree {
+    pub name: Span,
+    pub phase: PhaseWord,
+    pub number: Span,
+    pub builder: BuildWord,
+    pub subject: Span,
+    pub major: Option<Span>,
+    pub set: Option<Span>,
+}
+
+/// A declaration by the spans of its parts: a family or a constant with its name and its kind or
+/// type; a theorem; a rule; the constants of a family, as a `data` declaration lists them.
 #[derive(Drop)]
 pub enum DeclTree {
     Family(Span, TypeTree),
     Const(Span, TypeTree),
-    Theorem(Span, TypeTree),
-    Rule(Span, PhaseWord, Span, BuildWord, Span, Option<Span>, Option<Span>),
+    Theorem(TheoremTree),
+    Rule(RuleTree),
     Ctors(Span, Spans),
 }
 
@@ -87,9 +106,10 @@ impl DeclTrees {
         self.items.as_slice()
     }
 
-    /// Adds a declaration at the end.
+    /// Adds a declaration at the end. The list is as it was where memory is refused.
     pub fn push(&mut self, declaration: DeclTree) -> Result<(), AllocError>
-        ensures { IfOk result (λ _. self.new ≡ self.old ++ declaration ∷ []) }
+        ensures ok { OnOk result (self.new ≡ self.old ++ declaration ∷ []) }
+        ensures err { OnErr result (self.new ≡ self.old) }
     {
         self.items.push(declaration)?;
         Ok(())

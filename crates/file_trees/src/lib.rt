@@ -11,9 +11,9 @@ pub mod spans;
 pub mod term_tree;
 pub mod type_tree;
 
-pub use decl_tree::{BuildWord, DeclTree, DeclTrees, FileTree, PhaseWord};
+pub use decl_tree::{BuildWord, DeclTree, DeclTrees, FileTree, PhaseWord, RuleTree, TheoremTree};
 pub use places::place;
-pub use span::Span;
-pub use spans::Spans;
+pub use span::{BinderSpan, Span};
+pub use spans::{BinderSpans, Spans};
 pub use term_tree::{Part, TermTree, TermTrees};
 pub use type_tree::{Binder, Binders, Last, TypeTree};

@@ -13,7 +13,7 @@ pub fn place(t: &TermTree) -> u32
     ensures { result ≡ tree_place (tree_of t.now) }
 {
     match t {
-        TermTree::Abs(span, _) => span.start,
+        TermTree::Abs(binder, _) => binder.opening,
         TermTree::App(head, _) => place(head.term()),
         TermTree::Leaf(span) => span.start,
     }

@@ -1,18 +1,18 @@
 //! Terms as they are written.
 
-ghost use Rattle.std.specs.Prelude.{◌≡◌, ◌++◌, [], ◌∷◌, IfOk, MatchOption, length};
+ghost use Rattle.std.specs.Prelude.{◌≡◌, ◌++◌, [], ◌∷◌, IfOk, OnOk, OnErr, MatchOption, length};
 ghost use Rattle.file_trees.specs.TermViews.{tree_of, trees_of, has_none};
 
-use crate::span::Span;
+use crate::span::{BinderSpan, Span};
 use std::alloc::{AllocError, Global};
 use std::marker::Model;
 
-/// A term: an abstraction with the span of its bracket and its body, an application of a head to
+/// A term: an abstraction with its binder and its body, an application of a head to
 /// arguments, or a name or a variable.
 #[cycle(term)]
 #[derive(Drop)]
 pub enum TermTree {
-    Abs(Span, Part),
+    Abs(BinderSpan, Part),
     App(Part, TermTrees),
     Leaf(Span),
 }
@@ -123,16 +123,24 @@ impl TermTrees {
         self.items.as_slice()
     }
 
-    /// Adds a term at the end.
+    /// Adds a term at the end. The list is as it was where memory is refused.
     #[tactic(auto, using(crate::proofs::TreeLists::trees_of_append))]
     pub fn push(&mut self, term: TermTree) -> Result<(), AllocError>
-        ensures { IfOk result (λ _. self.new ≡ self.old ++ tree_of term ∷ []) }
+        ensures ok { OnOk result (self.new ≡ self.old ++ tree_of term ∷ []) }
+        ensures err { OnErr result (self.new ≡ self.old) }
     {
         self.items.push(term)?;
         Ok(())
     }
 
-    /// The first term, and the others.
+    /// Gives back the memory that further terms would have had.
+    pub fn shrink(&mut self)
+        ensures { self.new ≡ self.old }
+    {
+        self.items.shrink_to_fit();
+    }
+
+    /// The first term, and the others, in no more memory than they need.
     pub fn split(mut self) -> Option<(TermTree, TermTrees)>
         ensures { MatchOption result (self ≡ []) (λ parts. self ≡ tree_of parts.0 ∷ parts.1) }
     {
@@ -140,6 +148,7 @@ impl TermTrees {
             return None;
         }
         let first = self.items.remove(0);
+        self.items.shrink_to_fit();
         Some((first, self))
     }
 }

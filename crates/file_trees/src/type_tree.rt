@@ -1,10 +1,10 @@
 //! Types and kinds as they are written.
 
-ghost use Rattle.std.specs.Prelude.{◌≡◌, ◌++◌, [], ◌∷◌, IfOk};
+ghost use Rattle.std.specs.Prelude.{◌≡◌, ◌++◌, [], ◌∷◌, IfOk, OnOk, OnErr};
 ghost use Rattle.file_trees.specs.Trees.{bind, family, star};
 ghost use Rattle.file_trees.specs.TypeViews.{binding_of, bindings_of, has_no_part, last_of, IsLast};
 
-use crate::span::Span;
+use crate::span::{BinderSpan, Span};
 use crate::term_tree::TermTrees;
 use std::alloc::{AllocError, Global};
 use std::marker::Model;
@@ -18,12 +18,12 @@ pub struct TypeTree {
     last: Last,
 }
 
-/// What stands before the last part of a type: a binder in braces with the span from its brace to
-/// the start of its colon and its type, or the left side of an arrow.
+/// What stands before the last part of a type: a binder in braces with its type, or the left
+/// side of an arrow.
 #[cycle(classifier)]
 #[derive(Drop)]
 pub enum Binder {
-    Pi(Span, TypeTree),
+    Pi(BinderSpan, TypeTree),
     Arrow(TypeTree),
 }
 
@@ -114,10 +114,18 @@ impl Binders {
         self.items.as_slice()
     }
 
-    /// Adds a part at the end.
+    /// Gives back the memory that further parts would have had.
+    pub fn shrink(&mut self)
+        ensures { self.new ≡ self.old }
+    {
+        self.items.shrink_to_fit();
+    }
+
+    /// Adds a part at the end. The list is as it was where memory is refused.
     #[tactic(auto, using(crate::proofs::TreeLists::bindings_of_append))]
     pub fn push(&mut self, binder: Binder) -> Result<(), AllocError>
-        ensures { IfOk result (λ _. self.new ≡ self.old ++ binding_of binder ∷ []) }
+        ensures ok { OnOk result (self.new ≡ self.old ++ binding_of binder ∷ []) }
+        ensures err { OnErr result (self.new ≡ self.old) }
     {
         self.items.push(binder)?;
         Ok(())
@@ -126,9 +134,11 @@ impl Binders {
 
 impl TypeTree {
     /// A type that ends in a family applied to terms. It takes no memory.
-    pub fn family(binders: Binders, head: Span, arguments: TermTrees) -> TypeTree
+    pub fn family(mut binders: Binders, head: Span, mut arguments: TermTrees) -> TypeTree
         ensures { result ≡ bind binders (family head arguments) }
     {
+        binders.shrink();
+        arguments.shrink();
         TypeTree {
             binders,
             last: Last::Fam(head, arguments),
@@ -136,9 +146,10 @@ impl TypeTree {
     }
 
     /// A kind. It takes no memory.
-    pub fn kind(binders: Binders, word: Span) -> TypeTree
+    pub fn kind(mut binders: Binders, word: Span) -> TypeTree
         ensures { result ≡ bind binders (star word) }
     {
+        binders.shrink();
         TypeTree {
             binders,
             last: Last::Star(word),
@@ -146,13 +157,18 @@ impl TypeTree {
     }
 
     /// A type that ends in a type in parentheses.
-    pub fn group(alloc: Global, binders: Binders, inner: TypeTree) -> Result<TypeTree, AllocError>
+    pub fn group(
+        alloc: Global,
+        mut binders: Binders,
+        inner: TypeTree,
+    ) -> Result<TypeTree, AllocError>
         ensures { IfOk result (λ tree. tree ≡ bind binders inner) }
     {
         if binders.is_empty() {
             return Ok(inner);
         }
         let inner = Box::new(alloc, inner)?;
+        binders.shrink();
         Ok(TypeTree {
             binders,
             last: Last::Group(inner),

@@ -1,13 +1,12 @@
 -- What is refused of a file is refused at a place: no declaration is refused since memory ran out.
-use Rattle.std.specs.Prelude.{ℕ, List, Option}
+use Rattle.std.specs.Prelude.{ℕ, List}
 use Rattle.lf_definitions.specs.Syntax.{LfType}
 use Rattle.lf_definitions.specs.Substitution.{Replacement}
 use Rattle.lf_definitions.specs.Typing.{Typing}
 use Rattle.lf_definitions.specs.Signatures.{LfSignature}
 use Rattle.file_trees.specs.declared.span.Span.{Span}
 use Rattle.file_trees.specs.declared.decl_tree.DeclTree.{DeclTree}
-use Rattle.file_trees.specs.declared.decl_tree.PhaseWord.{PhaseWord}
-use Rattle.file_trees.specs.declared.decl_tree.BuildWord.{BuildWord}
+use Rattle.file_trees.specs.declared.decl_tree.RuleTree.{RuleTree}
 use Rattle.file_trees.specs.Trees.{Tree, Classifier}
 use Rattle.rule_sets.specs.Books.{Book}
 use Rattle.elab_terms.specs.Names.{Text, Bound}
@@ -27,9 +26,9 @@ HasPlace _ = Unit {0}
 mutual
   term_has_place : {text : Text} {sig : LfSignature} {binders : Bound} {Γ : Typing} {tree : Tree} {wanted : LfType} {fault : ElabFault} →
       RefusesTerm text sig binders Γ tree wanted fault → HasPlace fault
-  term_has_place (refuses_abstraction binders Γ tree span body f args is) = tt
-  term_has_place (refuses_body binders Γ tree span body a c fault is refused) = term_has_place refused
-  term_has_place (refuses_redex binders Γ tree argument span body arguments wanted is) = tt
+  term_has_place (refuses_abstraction binders Γ tree binder body f args is) = tt
+  term_has_place (refuses_body binders Γ tree binder body a c fault is refused) = term_has_place refused
+  term_has_place (refuses_redex binders Γ tree argument binder body arguments wanted is) = tt
   term_has_place (refuses_name binders Γ tree span arguments wanted is none) = tt
   term_has_place (refuses_extra binders Γ tree extra span arguments h domains f args wanted is resolved known there) = tt
   term_has_place (refuses_in_argument binders Γ tree span arguments h domains f args wanted fault is resolved known few refused) = arguments_have_place refused
@@ -61,8 +60,7 @@ name_has_place : {names : List (List ℕ)} {most : ℕ} {text : Text} {name : Sp
 name_has_place (refuses_taken taken) = tt
 name_has_place (refuses_many new full) = tt
 
-rule_has_place : {text : Text} {sig : LfSignature} {book : Book} {phase : PhaseWord} {number subject : Span} {builder : BuildWord} {major : Option Span} {fault : ElabFault} →
-    RefusesRule text sig book phase number builder subject major fault → HasPlace fault
+rule_has_place : {text : Text} {sig : LfSignature} {book : Book} {parts : RuleTree} {fault : ElabFault} → RefusesRule text sig book parts fault → HasPlace fault
 rule_has_place (refuses_number none) = tt
 rule_has_place (refuses_subject phased none) = tt
 rule_has_place (refuses_major found phased known none) = tt
@@ -74,10 +72,10 @@ declaration_has_place (refuses_family_name name tree fault refused) = name_has_p
 declaration_has_place (refuses_family_kind name tree fault may refused) = kind_has_place refused
 declaration_has_place (refuses_constant_name name tree fault refused) = name_has_place refused
 declaration_has_place (refuses_constant_type name tree fault may refused) = type_has_place refused
-declaration_has_place (refuses_theorem_name name tree fault refused) = name_has_place refused
-declaration_has_place (refuses_theorem_type name tree fault may refused) = type_has_place refused
-declaration_has_place (refuses_rule_name name number subject phase builder major set fault refused) = name_has_place refused
-declaration_has_place (refuses_rule_part name number subject phase builder major set fault may refused) = rule_has_place refused
+declaration_has_place (refuses_theorem_name tree fault refused) = name_has_place refused
+declaration_has_place (refuses_theorem_type tree fault may refused) = type_has_place refused
+declaration_has_place (refuses_rule_name parts fault refused) = name_has_place refused
+declaration_has_place (refuses_rule_part parts fault may refused) = rule_has_place refused
 declaration_has_place (refuses_listed_family name spans none) = tt
 declaration_has_place (refuses_listed name spans f resolved listed) = tt
 declaration_has_place (refuses_listed_name name span prefix rest f constants resolved none are fit unknown) = tt

@@ -45,7 +45,7 @@ same_by_declarations (programs.refused_for fault) verdict other h k = same_by_fa
 
 module _ (bytes : List ℕ) (text_has_one : texts.HasOneVerdict bytes)
     (tokens_have_one : (tokens : List Token) → parses.HasOneVerdict bytes tokens (length bytes))
-    (declarations_have_one : (tokens : List Token) (declarations : List DeclTree) → TokensOf bytes tokens → programs.HasOneVerdict bytes declarations) where
+    (declarations_have_one : (declarations : List DeclTree) → programs.HasOneVerdict bytes declarations) where
   -- What a verdict on the tokens makes of the bytes: where they are parsed, what one on the declarations does. And so for the text, by one on its tokens.
   abbrev TokensSay : parses.Verdict → Verdict → Type 0
   TokensSay (parses.parsed declarations) verdict = (one : programs.Verdict) × programs.IsVerdict bytes declarations one × DeclarationsSay one verdict
@@ -81,27 +81,26 @@ module _ (bytes : List ℕ) (text_has_one : texts.HasOneVerdict bytes)
   said (refused place BadRule) h = fault_said (faults.BadRule place) (refused place BadRule) h refl
 
   -- Two verdicts that one verdict of the tokens says are one, and so for one of the text.
-  same_by_tokens : (tokens : List Token) → TokensOf bytes tokens → (one : parses.Verdict) (verdict other : Verdict) → TokensSay one verdict → TokensSay one other →
-      verdict ≡ other
-  same_by_tokens tokens cut (parses.parsed declarations) verdict other h k =
-      let only = declarations_have_one tokens declarations cut in
+  same_by_tokens : (one : parses.Verdict) (verdict other : Verdict) → TokensSay one verdict → TokensSay one other → verdict ≡ other
+  same_by_tokens (parses.parsed declarations) verdict other h k =
+      let only = declarations_have_one declarations in
       same_by_declarations k.0 verdict other
       (subst (λ one. DeclarationsSay one verdict) (only.alone h.0 h.1 ∙ sym (only.alone k.0 k.1)) h.2) k.2
-  same_by_tokens tokens cut (parses.expected place) verdict other h k = h ∙ sym k
-  same_by_tokens tokens cut (parses.too_deep place) verdict other h k = h ∙ sym k
+  same_by_tokens (parses.expected place) verdict other h k = h ∙ sym k
+  same_by_tokens (parses.too_deep place) verdict other h k = h ∙ sym k
 
-  same_by_text : (one : texts.Verdict) → texts.IsVerdict bytes one → (verdict other : Verdict) → TextSays one verdict → TextSays one other → verdict ≡ other
-  same_by_text (texts.are_tokens tokens) cut verdict other h k =
+  same_by_text : (one : texts.Verdict) (verdict other : Verdict) → TextSays one verdict → TextSays one other → verdict ≡ other
+  same_by_text (texts.are_tokens tokens) verdict other h k =
       let only = tokens_have_one tokens in
-      same_by_tokens tokens cut k.0 verdict other
+      same_by_tokens k.0 verdict other
       (subst (λ one. TokensSay one verdict) (only.alone h.0 h.1 ∙ sym (only.alone k.0 k.1)) h.2) k.2
-  same_by_text (texts.no_utf8 place) is verdict other h k = h ∙ sym k
-  same_by_text (texts.first_wrong (bad_character place)) is verdict other h k = h ∙ sym k
-  same_by_text (texts.first_wrong (long_name place)) is verdict other h k = h ∙ sym k
+  same_by_text (texts.no_utf8 place) verdict other h k = h ∙ sym k
+  same_by_text (texts.first_wrong (bad_character place)) verdict other h k = h ∙ sym k
+  same_by_text (texts.first_wrong (long_name place)) verdict other h k = h ∙ sym k
 
   same_said : (verdict other : Verdict) → Said verdict → Said other → verdict ≡ other
   same_said verdict other h k =
-      same_by_text k.0 k.1 verdict other
+      same_by_text k.0 verdict other
       (subst (λ one. TextSays one verdict) (text_has_one.alone h.0 h.1 ∙ sym (text_has_one.alone k.0 k.1)) h.2) k.2
 
   -- Some verdict is true: that of the text, or else that of the tokens, or else that of the declarations.
@@ -126,7 +125,7 @@ module _ (bytes : List ℕ) (text_has_one : texts.HasOneVerdict bytes)
 
   by_tokens : (tokens : List Token) → TokensOf bytes tokens → (one : parses.Verdict) → parses.IsVerdict bytes tokens (length bytes) one → SomeVerdict
   by_tokens tokens cut (parses.parsed declarations) h =
-      let only = declarations_have_one tokens declarations cut in
+      let only = declarations_have_one declarations in
       by_declarations declarations (tokens, cut, h) only.verdict only.holds
   by_tokens tokens cut (parses.expected place) h = (refused place Expected, (tokens, cut, h))
   by_tokens tokens cut (parses.too_deep place) h = (refused place TooDeep, (tokens, cut, h))
@@ -145,4 +144,4 @@ module _ (bytes : List ℕ) (text_has_one : texts.HasOneVerdict bytes)
 -- So where texts, tokens and declarations have one verdict each, files have one.
 pub files_have_one_verdict : texts.TextsHaveOneVerdict → parses.TokensHaveOneVerdict → programs.DeclarationsHaveOneVerdict → FilesHaveOneVerdict
 files_have_one_verdict text tokens declarations bytes =
-    one_verdict bytes (text bytes) (λ cut. tokens bytes cut (length bytes)) (λ cut trees of_bytes. declarations bytes cut trees of_bytes)
+    one_verdict bytes (text bytes) (λ cut. tokens bytes cut (length bytes)) (λ trees. declarations bytes trees)

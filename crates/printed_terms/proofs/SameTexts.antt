@@ -7,10 +7,9 @@ use Rattle.std.proofs.lemmas.Bool.Decides.{nat_tests}
 use Rattle.std.proofs.lemmas.List.{append-nil, append_cancel_left}
 use Rattle.std.proofs.lemmas.List.Elements.{recursion_from_All}
 use Rattle.std.proofs.lemmas.Fmt.{decimal_injective}
-use Rattle.std.proofs.lemmas.Str.{encodes_same, len_utf8_bounds}
-use Rattle.unicode_ident.proofs.Computing.{unicode_ident}
+use Rattle.std.proofs.lemmas.Str.{len_utf8_bounds}
 use Rattle.basics.specs.Places.{place_of}
-use Rattle.lex_text.specs.Characters.{width, Spells, MayStart, IsDigit}
+use Rattle.lex_text.specs.Characters.{width, Spells, IsDigit}
 use Rattle.lex_text.specs.Tokens.{IsWord}
 use Rattle.lex_text.proofs.Places.{width-cons}
 use Rattle.lex_text.proofs.Prefixes.{head_is, tail_is}
@@ -22,9 +21,9 @@ use Rattle.file_elab.specs.GrammarNames.{IsGrammarName}
 use Rattle.file_print.specs.Printable.{IsPrintableHead, IsPrintable, ArePrintable}
 use Rattle.file_print.specs.Texts.{variable_text, head_text, in_parentheses, is_name, term_text, args_text}
 use Rattle.printed_tokens.proofs.Digits.{decimal_digits}
-use Rattle.printed_tokens.proofs.Names.{variable_spelled}
 use Rattle.printed_tokens.proofs.Spelling.{AreNamed, are_named}
 use Rattle.printed_types.specs.Depths.{IsWithinDepth, AreWithinDepth}
+use Rattle.printed_types.proofs.PrintedNames.{name_no_variable}
 use Rattle.printed_terms.specs.NameBytes.{IsNameByte}
 use Rattle.printed_terms.specs.Laws.{BeginsNoArgument, EndsTerm}
 use Rattle.printed_terms.proofs.NameTexts.{name_bytes}
@@ -109,17 +108,6 @@ some_text (c ∷ cs) some all = all
 
 pub name_is_text : (name : List ℕ) → IsGrammarName name → IsNameText name
 name_is_text name is = some_text name (some_bytes is.characters name is.word is.spelled) (recursion_from_All IsNameByte name (name_bytes name is))
-
-underscore_starts_no_word : (cs : List ℕ) → IsWord (95 ∷ cs) → ⊥
-unfolding unicode_ident
-underscore_starts_no_word cs h = let starts : MayStart 95 = h.0 in cc
-
--- No name of the grammar is printed for a variable.
-name_no_variable : (name : List ℕ) (n : ℕ) → IsGrammarName name → name ≡ variable_text n → ⊥
-name_no_variable name n is e =
-    let spelled : Spells (variable_text n) (variable_text n) = variable_spelled n in
-    let same : is.characters ≡ variable_text n = encodes_same is.characters (variable_text n) (is.spelled.encoded ∙ e ∙ sym spelled.encoded) in
-    underscore_starts_no_word (decimal n) (subst IsWord same is.word)
 
 pub named_at : (names : List (List ℕ)) (c : ℕ) → c < length names → slice_get names c ≡ Some (name_at names c)
 named_at [] c within = absurd (omega (arith, within))

@@ -8,7 +8,6 @@ use Rattle.lex_text.specs.Tokens.{TokensOf}
 use Rattle.file_trees.specs.Trees.{Tree}
 use Rattle.file_syntax.specs.Terminals.{terminals_of}
 use Rattle.file_syntax.specs.Productions.{IsTerm}
-use Rattle.elab_terms.specs.Names.{Text}
 use Rattle.elab_terms.specs.Terms.{ReadsTerm}
 use Rattle.file_elab.specs.GrammarNames.{IsGrammarName}
 use Rattle.file_print.specs.Texts.{term_text, type_text}
@@ -58,15 +57,11 @@ PrintedTypesAreOne = (sig : LfSignature) (depth : ℕ) (a b : LfType) → Formed
     IsPrintableType sig depth a → IsPrintableType sig depth b → depth + length (type_text sig depth a) < 2 ^ 64 →
     type_text sig depth a ≡ type_text sig depth b → a ≡ b
 
--- a printed term with its tokens
-abbrev pub printed_term : LfSignature → (depth : ℕ) → LfTerm → Text
-printed_term sig depth t = record { bytes = term_text sig depth t; tokens = tokens_from 0 (term_pieces sig depth t) }
-
 -- A printed term is cut into its tokens, and the grammar reads these as a tree of it.
 abbrev pub PrintedTermsHaveTheirTrees : Type 0
 PrintedTermsHaveTheirTrees = (sig : LfSignature) (depth : ℕ) (t : LfTerm) → All IsGrammarName (names_of sig) → IsPrintable sig depth t →
-    TokensOf (term_text sig depth t) (printed_term sig depth t).tokens
-    × ((tree : Tree) × IsTerm (terminals_of (term_text sig depth t) (printed_term sig depth t).tokens) [] tree × IsPrintedTerm (printed_term sig depth t) sig depth t tree)
+    TokensOf (term_text sig depth t) (tokens_from 0 (term_pieces sig depth t))
+    × ((tree : Tree) × IsTerm (terminals_of (term_text sig depth t) (tokens_from 0 (term_pieces sig depth t))) [] tree × IsPrintedTerm (term_text sig depth t) sig depth t tree)
 
 -- The text is cut into tokens, which the grammar reads as a term and elaboration, at the type, as this one.
 pub record TermReadsBack (sig : LfSignature) (bytes : List ℕ) (a : LfType) (t : LfTerm) : Type 0 where
@@ -74,7 +69,7 @@ pub record TermReadsBack (sig : LfSignature) (bytes : List ℕ) (a : LfType) (t 
   pub cut : TokensOf bytes tokens
   pub tree : Tree
   pub parsed : IsTerm (terminals_of bytes tokens) [] tree
-  pub read : ReadsTerm (record { bytes = bytes; tokens = tokens }) sig [] (typing_in sig [] []) tree a t
+  pub read : ReadsTerm bytes sig [] (typing_in sig [] []) tree a t
 
 -- What is printed for a closed term reads back at its type, where the names are names of the grammar and the length of the text fits in 64 bits.
 abbrev pub PrintedTermsReadBack : Type 0

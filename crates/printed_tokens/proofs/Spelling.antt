@@ -1,5 +1,5 @@
 -- The pieces of terms and types are spelled, before pieces that a name ends before.
-use Rattle.std.proofs.Common.{ℕ, zero, suc, ◌-◌, ◌<◌, List, [], ◌∷◌, ◌++◌, Bool, true, false, length, sym, subst, append_assoc, arith}
+use Rattle.std.proofs.Common.{◌≡◌, ℕ, zero, suc, ◌-◌, ◌<◌, List, [], ◌∷◌, ◌++◌, Bool, true, false, length, sym, subst, append_assoc, arith}
 use Rattle.std.specs.Prelude.{codes, if◌then◌else◌, All}
 use Rattle.std.proofs.lemmas.List.{append-nil}
 use Rattle.lex_text.specs.declared.mark.Mark.TheVariants.{Colon, Arrow, LParen, RParen, LBrace, RBrace, RBracket}
@@ -10,9 +10,9 @@ use Rattle.lf_definitions.specs.Signatures.{LfSignature, family_entry, constant_
 use Rattle.file_elab.specs.GrammarNames.{IsGrammarName}
 use Rattle.binder_marks.specs.Mentions.{mentions}
 use Rattle.file_print.specs.Printable.{IsPrintableHead, IsPrintable, ArePrintable, IsPrintableType}
-use Rattle.file_print.specs.Texts.{is_name, has_binders, type_text}
-use Rattle.printed_tokens.specs.Pieces.{Piece, space, piece, variable_piece, head_piece, pieces_in_parentheses, tokens_from, term_pieces, args_pieces, type_pieces}
-use Rattle.printed_tokens.proofs.PieceTexts.{type_text-pieces}
+use Rattle.file_print.specs.Texts.{is_name, term_text, has_binders, type_text}
+use Rattle.printed_tokens.specs.Pieces.{Piece, space, piece, variable_piece, head_piece, pieces_in_parentheses, pieces_text, tokens_from, term_pieces, args_pieces, type_pieces}
+use Rattle.printed_tokens.proofs.PieceTexts.{term_text-pieces, type_text-pieces}
 use Rattle.printed_tokens.proofs.Spelled.{Cut-Spelled, Spells-Spelled}
 use Rattle.printed_tokens.proofs.Names.{Begins, Follows, followed, nothing_follows, space_follows, opening_begins, bracket_begins, brace_begins, arrow_begins, closing_follows, bracket_follows, brace_follows, colon_follows, name_begins, variable_begins}
 
@@ -38,7 +38,7 @@ module _ (sig : LfSignature) (named : AreNamed sig) where
   argument_begins false ps after inside follows = enclosed ps after inside (followed after follows)
 
   mutual
-    pub term_begins : (depth : ℕ) (t : LfTerm) (after : List Piece) → IsPrintable sig depth t → Follows after → Begins (term_pieces sig depth t ++ after)
+    term_begins : (depth : ℕ) (t : LfTerm) (after : List Piece) → IsPrintable sig depth t → Follows after → Begins (term_pieces sig depth t ++ after)
     term_begins depth (lam b) after printable follows =
         let body = term_begins (suc depth) b after printable follows in
         let rest = space ∷ term_pieces sig (suc depth) b ++ after in
@@ -48,7 +48,7 @@ module _ (sig : LfSignature) (named : AreNamed sig) where
     term_begins depth (at h args) after printable follows =
         head_begins depth h (args_pieces sig depth args ++ after) printable.0 (args_follow depth args after printable.1 follows)
 
-    pub args_follow : (depth : ℕ) (ts : Spine) (after : List Piece) → ArePrintable sig depth ts → Follows after → Follows (args_pieces sig depth ts ++ after)
+    args_follow : (depth : ℕ) (ts : Spine) (after : List Piece) → ArePrintable sig depth ts → Follows after → Follows (args_pieces sig depth ts ++ after)
     args_follow depth no_args after printable follows = follows
     args_follow depth (arg t ts) after printable follows =
         let rest = args_pieces sig depth ts ++ after in
@@ -85,7 +85,7 @@ module _ (sig : LfSignature) (named : AreNamed sig) where
   binder_begins true b depth ps after inside begins = braced_begins depth ps after inside begins
   binder_begins false b depth ps after inside begins = pointed_begins b ps after inside begins
 
-  pub type_begins : (depth : ℕ) (a : LfType) (after : List Piece) → IsPrintableType sig depth a → Follows after → Begins (type_pieces sig depth a ++ after)
+  type_begins : (depth : ℕ) (a : LfType) (after : List Piece) → IsPrintableType sig depth a → Follows after → Begins (type_pieces sig depth a ++ after)
   type_begins depth (pi a b) after printable follows =
       let prefix = if mentions 0 b
       then piece LBrace (codes "{") ∷ variable_piece depth ∷ piece Colon (codes ":") ∷ type_pieces sig depth a ++ piece RBrace (codes "}") ∷ space ∷ []
@@ -116,17 +116,24 @@ families_named (family_entry name kind ∷ sig) all (suc f) within = families_na
 pub are_named : (sig : LfSignature) → All IsGrammarName (names_of sig) → AreNamed sig
 are_named sig all = record { constants = constants_named sig all; families = families_named sig all }
 
-pub type_is_spelled : (sig : LfSignature) (a : LfType) → All IsGrammarName (names_of sig) → IsPrintableType sig 0 a → Begins (type_pieces sig 0 a)
-type_is_spelled sig a named printable =
-    subst Begins (append-nil (type_pieces sig 0 a)) (type_begins sig (are_named sig named) 0 a [] printable nothing_follows)
+-- The tokens of a text are those of its pieces, where these are spelled.
+tokens_of_pieces : (text : List ℕ) (ps : List Piece) → pieces_text ps ≡ text → Begins ps → TokensOf text (tokens_from 0 ps)
+tokens_of_pieces text ps same begins = (
+  begins.characters,
+  subst (λ bytes. Spells begins.characters bytes) same (Spells-Spelled ps begins.characters begins.spelled),
+  Cut-Spelled 0 ps begins.characters begins.spelled,
+)
 
--- The tokens of a printed type are those of its pieces.
+-- The tokens of a printed term are those of its pieces,
+pub term_tokens : (sig : LfSignature) (depth : ℕ) (t : LfTerm) → All IsGrammarName (names_of sig) → IsPrintable sig depth t →
+    TokensOf (term_text sig depth t) (tokens_from 0 (term_pieces sig depth t))
+term_tokens sig depth t named printable =
+    tokens_of_pieces (term_text sig depth t) (term_pieces sig depth t) (term_text-pieces sig depth t)
+    (subst Begins (append-nil (term_pieces sig depth t)) (term_begins sig (are_named sig named) depth t [] printable nothing_follows))
+
+-- and so are those of a printed type.
 pub tokens_printed : (sig : LfSignature) (a : LfType) → All IsGrammarName (names_of sig) → IsPrintableType sig 0 a →
     TokensOf (type_text sig 0 a) (tokens_from 0 (type_pieces sig 0 a))
 tokens_printed sig a named printable =
-    let pieces = type_pieces sig 0 a in
-    let begins = type_is_spelled sig a named printable in (
-      begins.characters,
-      subst (λ bytes. Spells begins.characters bytes) (type_text-pieces sig 0 a) (Spells-Spelled pieces begins.characters begins.spelled),
-      Cut-Spelled 0 pieces begins.characters begins.spelled,
-    )
+    tokens_of_pieces (type_text sig 0 a) (type_pieces sig 0 a) (type_text-pieces sig 0 a)
+    (subst Begins (append-nil (type_pieces sig 0 a)) (type_begins sig (are_named sig named) 0 a [] printable nothing_follows))

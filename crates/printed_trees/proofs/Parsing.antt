@@ -1,19 +1,18 @@
 -- The grammar reads the tokens of printed terms and types.
-use Rattle.std.proofs.Common.{◌≡◌, ◌≢◌, ℕ, suc, ◌+◌, ◌-◌, List, [], ◌∷◌, ◌++◌, Bool, true, false, length, refl, sym, ap, ◌∙◌, subst, append_assoc, map, ⊎_elim}
+use Rattle.std.proofs.Common.{◌≡◌, ◌≢◌, ℕ, suc, ◌+◌, ◌-◌, List, [], ◌∷◌, ◌++◌, Bool, true, false, length, Some, refl, sym, ap, ◌∙◌, subst, append_assoc, map, ⊎_elim}
 use Rattle.std.specs.Prelude.{codes, if◌then◌else◌, slice_range, All}
 use Rattle.std.specs.Str.{bytes_eq}
-use Rattle.std.proofs.lemmas.List.{append-nil}
+use Rattle.std.proofs.lemmas.List.{append-nil, map-append}
 use Rattle.std.proofs.lemmas.Bool.{cases_Bool}
 use Rattle.std.proofs.lemmas.Slice.Eq.{bytes_eq-Decides}
 use Rattle.lex_text.specs.declared.mark.Mark.TheVariants.{Word, Colon, Arrow, RParen, LBrace, RBrace}
-use Rattle.lex_text.specs.declared.token.Token.{Token}
 use Rattle.file_trees.specs.declared.span.Span.{Span}
 use Rattle.file_trees.specs.Trees.{Tree, leaf, abstraction, head, applied, Classifier}
 use Rattle.file_trees.specs.Trees as trees
 use Rattle.file_syntax.specs.declared.terminal.Terminal.{Terminal}
 use Rattle.file_syntax.specs.declared.terminal.Terminal.TheVariants as terminals
 use Rattle.file_syntax.specs.Terminals.{keyword_of, terminal_of, terminals_of}
-use Rattle.file_syntax.specs.Productions.{IsTerm, abstracts, applies, IsArgument, name, variable, term, AreArguments, no_more, one_more, IsType, binds, ends, goes_to, IsSimple, family_of, group, a_variable, joined_spans, up_to}
+use Rattle.file_syntax.specs.Productions.{IsTerm, abstracts, applies, IsArgument, name, variable, term, AreArguments, no_more, one_more, IsType, binds, ends, goes_to, IsSimple, family_of, group, a_variable, binder_of}
 use Rattle.lf_definitions.specs.Syntax.{LfHead, bound, constant, metavariable, LfTerm, lam, at, Spine, no_args, arg, LfType, pi, family}
 use Rattle.lf_definitions.specs.Signatures.{LfSignature, names_of, constant_names, family_names, name_at}
 use Rattle.elab_terms.specs.Names.{Text, text_at}
@@ -23,25 +22,20 @@ use Rattle.elab_terms.proofs.Applications.{base_of-apply_all, arguments_of_appli
 use Rattle.file_elab.specs.GrammarNames.{IsGrammarName}
 use Rattle.binder_marks.specs.Mentions.{mentions}
 use Rattle.file_print.specs.Printable.{IsPrintableHead, IsPrintable, ArePrintable, IsPrintableType}
-use Rattle.file_print.specs.Texts.{variable_text, head_text, is_name, has_binders}
+use Rattle.file_print.specs.Texts.{variable_text, head_text, is_name, term_text, has_binders, type_text}
 use Rattle.printed_tokens.specs.Pieces.{Piece, space, piece, variable_piece, head_piece, pieces_in_parentheses, tokens_from, term_pieces, args_pieces, type_pieces}
-use Rattle.printed_tokens.proofs.PieceTexts.{type_text-pieces}
-use Rattle.printed_tokens.proofs.Spelling.{AreNamed, are_named, type_is_spelled}
+use Rattle.printed_tokens.proofs.PieceTexts.{term_text-pieces, type_text-pieces}
+use Rattle.printed_tokens.proofs.Spelling.{AreNamed, are_named}
 use Rattle.printed_trees.specs.PrintedTrees.{IsPrintedTerm, printed_abstraction, printed_application, ArePrintedTerms, printed_none, printed_argument, printed_name, IsPrintedType, printed_binder, printed_family}
-use Rattle.printed_trees.specs.Laws.{printed}
 use Rattle.printed_trees.proofs.Standing.{stands, past, tokens_from-append, Stand, Stand-prefix, Stand-rest}
 
 -- the terminals of pieces that stand at a place
 abbrev pub terminals_at : Text → ℕ → List Piece → List Terminal
-terminals_at text place ps = terminals_of text.bytes (tokens_from place ps)
-
-map-append : (f : Token → Terminal) (xs ys : List Token) → map f (xs ++ ys) ≡ map f xs ++ map f ys
-map-append f [] ys = refl
-map-append f (x ∷ xs) ys = ap (λ rest. f x ∷ rest) (map-append f xs ys)
+terminals_at text place ps = terminals_of text (tokens_from place ps)
 
 terminals_at-append : (text : Text) (place : ℕ) (ps qs : List Piece) → terminals_at text place (ps ++ qs) ≡ terminals_at text place ps ++ terminals_at text (past place ps) qs
 terminals_at-append text place ps qs =
-    ap (map (terminal_of text.bytes)) (tokens_from-append place ps qs) ∙ map-append (terminal_of text.bytes) (tokens_from place ps) (tokens_from (past place ps) qs)
+    ap (map (terminal_of text)) (tokens_from-append place ps qs) ∙ map-append (terminal_of text) (tokens_from place ps) (tokens_from (past place ps) qs)
 
 -- the terminals of two parts, and others
 terminals_parted : (text : Text) (place : ℕ) (ps qs : List Piece) (rest : List Terminal) →
@@ -56,11 +50,11 @@ no_type : (word : List ℕ) → word ≢ codes "type" → bytes_eq word (codes "
 no_type word other = ⊎_elim (λ same. absurd (other ((bytes_eq-Decides word (codes "type")).0 same))) (λ differ. differ) (cases_Bool (bytes_eq word (codes "type")))
 
 -- the terminal of a name is a word
-word_terminal : (text : Text) (place : ℕ) (word : List ℕ) → slice_range text.bytes place (place + length word) ≡ word → IsGrammarName word →
-    terminal_of text.bytes (record { mark = Word; start = place; end = place + length word })
-    ≡ terminals.Word (keyword_of (slice_range text.bytes place (place + length word))) (span_from place word)
+word_terminal : (text : Text) (place : ℕ) (word : List ℕ) → slice_range text place (place + length word) ≡ word → IsGrammarName word →
+    terminal_of text (record { mark = Word; start = place; end = place + length word })
+    ≡ terminals.Word (keyword_of (slice_range text place (place + length word))) (span_from place word)
 word_terminal text place word stands is =
-    let other : bytes_eq (slice_range text.bytes place (place + length word)) (codes "type") ≡ false = ap (λ l. bytes_eq l (codes "type")) stands ∙ no_type word is.other in
+    let other : bytes_eq (slice_range text place (place + length word)) (codes "type") ≡ false = ap (λ l. bytes_eq l (codes "type")) stands ∙ no_type word is.other in
     rw other
 
 abbrev HasTerm : Text → LfSignature → ℕ → LfTerm → List Terminal → List Terminal → Type 0
@@ -94,7 +88,7 @@ module _ (text : Text) (sig : LfSignature) (named : AreNamed sig) where
       let word = name_at (constant_names sig) c in (
         span_from place word,
         subst (λ terminal. IsArgument (terminal ∷ rest) rest (leaf (span_from place word))) (sym (word_terminal text place word stand.0 (named.constants c printable)))
-            (name (keyword_of (slice_range text.bytes place (place + length word))) (span_from place word) rest),
+            (name (keyword_of (slice_range text place (place + length word))) (span_from place word) rest),
         stand.0,
       )
   head_argument depth place (metavariable g) rest printable stand = absurd printable
@@ -109,7 +103,7 @@ module _ (text : Text) (sig : LfSignature) (named : AreNamed sig) where
       let ps = term_pieces sig depth t in
       let opening = span_from place (codes "(") in
       let closing = span_from (past (place + 1) ps) (codes ")") in
-      let inside = parses (place + 1) (terminals.RParen closing ∷ rest) (Stand-prefix text (place + 1) ps (piece RParen (codes ")") ∷ []) stand.2) in (
+      let inside = parses (place + 1) (terminals.RParen closing ∷ rest) (Stand-prefix text (place + 1) ps (piece RParen (codes ")") ∷ []) stand.1) in (
         inside.0,
         subst (λ l. IsArgument (terminals.LParen opening ∷ l) rest inside.0) (sym (terminals_parted text (place + 1) ps (piece RParen (codes ")") ∷ []) rest))
             (term opening closing (terminals_at text (place + 1) ps ++ terminals.RParen closing ∷ rest) rest inside.0 inside.1),
@@ -133,10 +127,12 @@ module _ (text : Text) (sig : LfSignature) (named : AreNamed sig) where
         let opening = span_from place (codes "[") in
         let bound_span = span_from (place + 1) word in
         let closing = span_from (place + 1 + length word) (codes "]") in
-        let body = term_parsed (suc depth) (place + 1 + length word + 1 + 1) b rest printable stand.2.2.2 in (
-          abstraction (joined_spans opening closing) body.0,
-          abstracts opening closing (terminals.Var bound_span) (terminals_at text (place + 1 + length word + 1 + 1) (term_pieces sig (suc depth) b) ++ rest) rest body.0 (a_variable bound_span) body.1,
-          printed_abstraction depth b (abstraction (joined_spans opening closing) body.0) (joined_spans opening closing) body.0 (refl, refl) stand.1 body.2,
+        let binder = binder_of opening bound_span in
+        let body = term_parsed (suc depth) (place + 1 + length word + 1 + 1) b rest printable stand.1.1.1 in (
+          abstraction binder body.0,
+          abstracts opening closing bound_span (terminals.Var bound_span) (terminals_at text (place + 1 + length word + 1 + 1) (term_pieces sig (suc depth) b) ++ rest) rest body.0
+              (a_variable bound_span) body.1,
+          printed_abstraction depth b (abstraction binder body.0) binder body.0 (refl, refl) (ap Some stand.1.0) body.2,
         )
     term_parsed depth place (at h args) rest printable stand =
         let here = Stand-prefix text place (head_piece sig depth h ∷ []) (args_pieces sig depth args) stand in
@@ -172,15 +168,15 @@ module _ (text : Text) (sig : LfSignature) (named : AreNamed sig) where
   atom_parsed depth place f args rest printable stand =
       let word = name_at (family_names sig) f in
       let span = span_from place word in
-      let others = args_parsed depth (place + length word) args rest printable.1 stand.2 in
+      let others = args_parsed depth (place + length word) args rest printable.1 stand.1 in
       let left = terminals_at text (place + length word) (args_pieces sig depth args) ++ rest in (
         trees.family span others.0,
         subst (λ terminal. IsSimple (terminal ∷ left) rest (trees.family span others.0)) (sym (word_terminal text place word stand.0 (named.families f printable.0)))
-            (family_of (keyword_of (slice_range text.bytes place (place + length word))) span left rest others.0 others.1),
+            (family_of (keyword_of (slice_range text place (place + length word))) span left rest others.0 others.1),
         printed_family depth f args span others.0 stand.0 others.2,
       )
 
-  -- how a type is read wherever it stand
+  -- how a type is read wherever it stands
   abbrev ParsesType : ℕ → LfType → Type 0
   ParsesType depth a = (place : ℕ) (rest : List Terminal) → Stand text place (type_pieces sig depth a) → HasType text sig depth a (terminals_at text place (type_pieces sig depth a) ++ rest) rest
 
@@ -192,7 +188,7 @@ module _ (text : Text) (sig : LfSignature) (named : AreNamed sig) where
       let ps = type_pieces sig depth (pi a b) in
       let opening = span_from place (codes "(") in
       let closing = span_from (past (place + 1) ps) (codes ")") in
-      let inside = parses (place + 1) (terminals.RParen closing ∷ rest) (Stand-prefix text (place + 1) ps (piece RParen (codes ")") ∷ []) stand.2) in (
+      let inside = parses (place + 1) (terminals.RParen closing ∷ rest) (Stand-prefix text (place + 1) ps (piece RParen (codes ")") ∷ []) stand.1) in (
         inside.0,
         subst (λ l. IsSimple (terminals.LParen opening ∷ l) rest inside.0) (sym (terminals_parted text (place + 1) ps (piece RParen (codes ")") ∷ []) rest))
             (group opening closing (terminals_at text (place + 1) ps ++ terminals.RParen closing ∷ rest) rest inside.0 inside.1),
@@ -224,16 +220,18 @@ module _ (text : Text) (sig : LfSignature) (named : AreNamed sig) where
       let colon = span_from (place + 1 + length word) (codes ":") in
       let start = place + 1 + length word + 1 in
       let closing = span_from (past start ps) (codes "}") in
-      let domain = parses start (terminals.RBrace closing ∷ after) (Stand-prefix text start ps (piece RBrace (codes "}") ∷ space ∷ []) stand.2.2.2) in
-      let whole = trees.pi (up_to opening colon) domain.0 body in
+      let domain = parses start (terminals.RBrace closing ∷ after) (Stand-prefix text start ps (piece RBrace (codes "}") ∷ space ∷ []) stand.1.1.1) in
+      let binder = binder_of opening bound_span in
+      let whole = trees.pi binder domain.0 body in
       record {
         whole = whole;
         domain = domain.0;
         place = place;
         parsed = subst (λ l. IsType (terminals.LBrace opening ∷ terminals.Var bound_span ∷ terminals.Colon colon ∷ l) rest whole)
             (sym (terminals_parted text start ps (piece RBrace (codes "}") ∷ space ∷ []) after))
-            (binds opening colon closing (terminals.Var bound_span) (terminals_at text start ps ++ terminals.RBrace closing ∷ after) after rest domain.0 body (a_variable bound_span) domain.1 parsed);
-        is_binder = subst (IsBinder text whole place domain.0 body) stand.1 (pi_binder (up_to opening colon) domain.0 body);
+            (binds opening colon closing bound_span (terminals.Var bound_span) (terminals_at text start ps ++ terminals.RBrace closing ∷ after) after rest domain.0 body
+            (a_variable bound_span) domain.1 parsed);
+        is_binder = subst (IsBinder text whole place domain.0 body) (ap Some stand.1.0) (pi_binder binder domain.0 body);
         printed = domain.2;
       }
   binder_parsed false depth place a after rest body printable parses stand parsed =
@@ -266,15 +264,25 @@ module _ (text : Text) (sig : LfSignature) (named : AreNamed sig) where
         printed_binder depth found.place a b found.whole found.domain body.0 found.is_binder found.printed body.2,
       )
 
+  pub whole_term_parsed : (depth : ℕ) (t : LfTerm) → IsPrintable sig depth t → Stand text 0 (term_pieces sig depth t) → HasTerm text sig depth t (terminals_at text 0 (term_pieces sig depth t)) []
+  whole_term_parsed depth t printable stand =
+      let whole = term_parsed depth 0 t [] printable stand in
+      (whole.0, subst (λ l. IsTerm l [] whole.0) (append-nil (terminals_at text 0 (term_pieces sig depth t))) whole.1, whole.2)
+
   pub whole_parsed : (a : LfType) → IsPrintableType sig 0 a → Stand text 0 (type_pieces sig 0 a) → HasType text sig 0 a (terminals_at text 0 (type_pieces sig 0 a)) []
   whole_parsed a printable stand =
       let whole = type_parsed 0 a printable 0 [] stand in
       (whole.0, subst (λ l. IsType l [] whole.0) (append-nil (terminals_at text 0 (type_pieces sig 0 a))) whole.1, whole.2)
 
--- The grammar reads a printed type as a tree of it.
+-- The grammar reads a printed term as a tree of it,
+pub term_printed : (sig : LfSignature) (depth : ℕ) (t : LfTerm) → All IsGrammarName (names_of sig) → IsPrintable sig depth t →
+    (tree : Tree) × IsTerm (terminals_of (term_text sig depth t) (tokens_from 0 (term_pieces sig depth t))) [] tree × IsPrintedTerm (term_text sig depth t) sig depth t tree
+term_printed sig depth t named printable =
+    whole_term_parsed (term_text sig depth t) sig (are_named sig named) depth t printable
+    (stands (term_text sig depth t) (term_pieces sig depth t) (sym (term_text-pieces sig depth t)))
+
+-- and a printed type.
 pub tree_printed : (sig : LfSignature) (a : LfType) → All IsGrammarName (names_of sig) → IsPrintableType sig 0 a →
-    (tree : Classifier) × IsType (terminals_of (printed sig a).bytes (printed sig a).tokens) [] tree × IsPrintedType (printed sig a) sig 0 a tree
+    (tree : Classifier) × IsType (terminals_of (type_text sig 0 a) (tokens_from 0 (type_pieces sig 0 a))) [] tree × IsPrintedType (type_text sig 0 a) sig 0 a tree
 tree_printed sig a named printable =
-    let begins = type_is_spelled sig a named printable in
-    whole_parsed (printed sig a) sig (are_named sig named) a printable
-    (stands (printed sig a).bytes (type_pieces sig 0 a) begins.characters begins.spelled (sym (type_text-pieces sig 0 a)))
+    whole_parsed (type_text sig 0 a) sig (are_named sig named) a printable (stands (type_text sig 0 a) (type_pieces sig 0 a) (sym (type_text-pieces sig 0 a)))

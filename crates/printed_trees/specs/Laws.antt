@@ -5,18 +5,13 @@ use Rattle.lf_definitions.specs.Signatures.{LfSignature, names_of}
 use Rattle.file_trees.specs.Trees.{Classifier}
 use Rattle.file_syntax.specs.Terminals.{terminals_of}
 use Rattle.file_syntax.specs.Productions.{IsType}
-use Rattle.elab_terms.specs.Names.{Text}
 use Rattle.file_elab.specs.GrammarNames.{IsGrammarName}
 use Rattle.file_print.specs.Texts.{type_text}
 use Rattle.file_print.specs.Printable.{IsPrintableType}
 use Rattle.printed_tokens.specs.Pieces.{tokens_from, type_pieces}
 use Rattle.printed_trees.specs.PrintedTrees.{IsPrintedType}
 
--- a printed type with its tokens
-abbrev pub printed : LfSignature → LfType → Text
-printed sig a = record { bytes = type_text sig 0 a; tokens = tokens_from 0 (type_pieces sig 0 a) }
-
 -- The grammar reads the tokens of a printed type as a tree of it.
 abbrev pub PrintedTypesHaveTheirTrees : Type 0
 PrintedTypesHaveTheirTrees = (sig : LfSignature) (a : LfType) → All IsGrammarName (names_of sig) → IsPrintableType sig 0 a →
-    (tree : Classifier) × IsType (terminals_of (printed sig a).bytes (printed sig a).tokens) [] tree × IsPrintedType (printed sig a) sig 0 a tree
+    (tree : Classifier) × IsType (terminals_of (type_text sig 0 a) (tokens_from 0 (type_pieces sig 0 a))) [] tree × IsPrintedType (type_text sig 0 a) sig 0 a tree

@@ -3,6 +3,7 @@ use Rattle.std.specs.Prelude.{◌≡◌, ℕ, suc, List, [], ◌∷◌, Bool, tr
 use Rattle.lf_definitions.specs.Syntax.{LfHead, LfTerm, lam, at, Spine, no_args, arg, LfType, pi, family}
 use Rattle.lf_definitions.specs.Signatures.{LfSignature, family_names, name_at}
 use Rattle.file_trees.specs.declared.span.Span.{Span}
+use Rattle.file_trees.specs.declared.span.BinderSpan.{BinderSpan}
 use Rattle.file_trees.specs.Trees.{Tree, leaf, abstraction, Classifier}
 use Rattle.file_trees.specs.Trees as trees
 use Rattle.elab_terms.specs.Names.{Text, text_at, binder_name}
@@ -13,8 +14,8 @@ use Rattle.file_print.specs.Texts.{variable_text, head_text}
 
 mutual
   pub data IsPrintedTerm (text : Text) (sig : LfSignature) : (depth : ℕ) → LfTerm → Tree → Type 0 where
-    printed_abstraction : (depth : ℕ) (b : LfTerm) (tree : Tree) (span : Span) (body : Tree) → IsApplied tree [] (abstraction span body) [] →
-        binder_name text span ≡ Some (variable_text depth) → IsPrintedTerm text sig (suc depth) b body → IsPrintedTerm text sig depth (lam b) tree
+    printed_abstraction : (depth : ℕ) (b : LfTerm) (tree : Tree) (binder : BinderSpan) (body : Tree) → IsApplied tree [] (abstraction binder body) [] →
+        binder_name text binder ≡ Some (variable_text depth) → IsPrintedTerm text sig (suc depth) b body → IsPrintedTerm text sig depth (lam b) tree
     printed_application : (depth : ℕ) (h : LfHead) (args : Spine) (tree : Tree) (span : Span) (arguments : List Tree) → IsApplied tree [] (leaf span) arguments →
         text_at text span ≡ head_text sig depth h → ArePrintedTerms text sig depth args arguments → IsPrintedTerm text sig depth (at h args) tree
 

@@ -1,4 +1,4 @@
--- Well-formed types with no variables outside can be printed.
+-- Well-formed types and terms with no variables outside can be printed.
 use Rattle.std.proofs.Common.{◌≡◌, ℕ, zero, suc, ◌<◌, List, [], ◌∷◌, Bool, true, false, length, Option, Some, None, refl, sym, ap, ◌∙◌, subst, ◌⊎◌, inl, inr, ⊎_elim, arith}
 use Rattle.std.specs.Prelude.{◌||◌, option_map, All}
 use Rattle.std.proofs.lemmas.Bool.{eqb-true}
@@ -52,8 +52,11 @@ mentioned_formed n (formed_family domains is spine) e = mentioned_args n spine e
 pub closed_mentions : (sig : LfSignature) (a : LfType) → Formed (kinds_in sig) (typing_in sig [] []) a → (n : ℕ) → mentions n a ≡ true → ⊥
 closed_mentions sig a formed n e = None-Some refl (mentioned_formed n formed e).1
 
+pub closed_term_mentions : (sig : LfSignature) (t : LfTerm) (a : LfType) → Typed (typing_in sig [] []) t a → (n : ℕ) → mentions_in_term n t ≡ true → ⊥
+closed_term_mentions sig t a typed n e = None-Some refl (mentioned_typed n typed e).1
+
 -- What is known of the heads at a place.
-pub record IsScoped (sig : LfSignature) (depth : ℕ) (Γ : Typing) : Type 0 where
+record IsScoped (sig : LfSignature) (depth : ℕ) (Γ : Typing) : Type 0 where
   pub variables : (n : ℕ) (a : LfType) → Γ (bound n) ≡ Some a → n < depth
   pub constants : (c : ℕ) → Γ (constant c) ≡ type_at (constant_types sig) c
   pub metavariables : (g : ℕ) → Γ (metavariable g) ≡ None
@@ -101,10 +104,17 @@ printable_type sig {kinds} {depth} {Γ} names known (formed_pi {a = a} first sec
     (printable_type sig names known first, printable_type sig names (under sig depth Γ a known) second)
 printable_type sig names known (formed_family {f = f} domains is spine) = (names f domains is, printable_args known spine)
 
+closed_scope : (sig : LfSignature) → IsScoped sig 0 (typing_in sig [] [])
+closed_scope sig = record { variables = λ n b e. absurd (None-Some refl e); constants = λ c. refl; metavariables = λ g. refl }
+
 -- A well-formed type with no variables outside can be printed.
 pub closed_printable : (sig : LfSignature) (a : LfType) → Formed (kinds_in sig) (typing_in sig [] []) a → IsPrintableType sig 0 a
 closed_printable sig a formed =
-    printable_type sig (family_within sig) (record { variables = λ n b e. absurd (None-Some refl e); constants = λ c. refl; metavariables = λ g. refl }) formed
+    printable_type sig (family_within sig) (closed_scope sig) formed
+
+-- So can a term that has a type with none.
+pub closed_term_printable : (sig : LfSignature) (t : LfTerm) (a : LfType) → Typed (typing_in sig [] []) t a → IsPrintable sig 0 t
+closed_term_printable sig t a typed = printable_term (closed_scope sig) typed
 
 -- The types of constants are well formed.
 constant_in : (whole sig : LfSignature) → All (FormedEntry whole) sig → (c : ℕ) (a : LfType) → type_at (constant_types sig) c ≡ Some a → Formed (kinds_in whole) (typing_in whole [] []) a

@@ -9,6 +9,7 @@ use Rattle.std.proofs.lemmas.Str.{encodes_same}
 use Rattle.unicode_ident.proofs.Computing.{unicode_ident}
 use Rattle.lex_text.specs.Characters.{Spells, MayStart}
 use Rattle.lex_text.specs.Tokens.{IsWord}
+use Rattle.lex_text.proofs.Prefixes.{tail_is}
 use Rattle.basics.specs.Places.{place_of}
 use Rattle.lf_definitions.specs.Syntax.{bound, constant, LfType}
 use Rattle.lf_definitions.specs.Typing.{type_at}
@@ -39,12 +40,9 @@ named_within _ _ (suc n) (named binders depth h) is = let inside = named_within 
 named_within _ _ zero (unnamed binders depth h) is = absurd is
 named_within _ _ (suc n) (unnamed binders depth h) is = let inside = named_within binders depth n h is in omega (arith, inside)
 
-tail_is : (x : ℕ) (xs ys : List ℕ) → x ∷ xs ≡ x ∷ ys → xs ≡ ys
-tail_is x xs ys e = cc
-
 differ : (m n : ℕ) → m < 2 ^ 64 → n < 2 ^ 64 → m ≢ n → bytes_eq (variable_text m) (variable_text n) ≡ false
 differ m n small few other =
-    ⊎_elim (λ same. absurd (other (decimal_injective m n small few (tail_is 95 (decimal m) (decimal n) ((bytes_eq-Decides (variable_text m) (variable_text n)).0 same))))) (λ differs. differs)
+    ⊎_elim (λ same. absurd (other (decimal_injective m n small few (tail_is ((bytes_eq-Decides (variable_text m) (variable_text n)).0 same))))) (λ differs. differs)
     (cases_Bool (bytes_eq (variable_text m) (variable_text n)))
 
 same_name : (name : List ℕ) (outer : Bound) → variable_of (Some name ∷ outer) name ≡ Some 0
@@ -75,15 +73,11 @@ underscore_starts_no_word : (cs : List ℕ) → IsWord (95 ∷ cs) → ⊥
 unfolding unicode_ident
 underscore_starts_no_word cs h = let starts : MayStart 95 = h.0 in cc
 
--- Bytes are spelled in one way.
-same_characters : (cs ds xs ys : List ℕ) → Spells cs xs → Spells ds ys → xs ≡ ys → cs ≡ ds
-same_characters cs ds xs ys first second e = encodes_same cs ds (first.encoded ∙ e ∙ sym second.encoded)
-
 -- No name of the grammar is printed for a variable.
-name_no_variable : (name : List ℕ) (n : ℕ) → IsGrammarName name → n < 2 ^ 64 → name ≡ variable_text n → ⊥
-name_no_variable name n is small e =
+pub name_no_variable : (name : List ℕ) (n : ℕ) → IsGrammarName name → name ≡ variable_text n → ⊥
+name_no_variable name n is e =
     let spelled : Spells (variable_text n) (variable_text n) = variable_spelled n in
-    let same : is.characters ≡ variable_text n = same_characters is.characters (variable_text n) name (variable_text n) is.spelled spelled e in
+    let same : is.characters ≡ variable_text n = encodes_same is.characters (variable_text n) (is.spelled.encoded ∙ e ∙ sym spelled.encoded) in
     underscore_starts_no_word (decimal n) (subst IsWord same is.word)
 
 pub name_not_bound : (binders : Bound) (depth : ℕ) (name : List ℕ) → ArePrinted binders depth → depth ≤ 2 ^ 64 → IsGrammarName name → variable_of binders name ≡ None
@@ -91,7 +85,7 @@ name_not_bound _ _ name outermost few is = refl
 name_not_bound _ _ name (unnamed binders depth h) few is = ap (option_map suc) (name_not_bound binders depth name h (omega arith) is)
 name_not_bound _ _ name (named binders depth h) few is =
     let differs : bytes_eq name (variable_text depth) ≡ false =
-    ⊎_elim (λ same. absurd (name_no_variable name depth is (omega arith) ((bytes_eq-Decides name (variable_text depth)).0 same))) (λ differs. differs) (cases_Bool (bytes_eq name (variable_text depth))) in
+    ⊎_elim (λ same. absurd (name_no_variable name depth is ((bytes_eq-Decides name (variable_text depth)).0 same))) (λ differs. differs) (cases_Bool (bytes_eq name (variable_text depth))) in
     other_name name (variable_text depth) binders differs ∙ ap (option_map suc) (name_not_bound binders depth name h (omega arith) is)
 
 -- a constant that has a type has a name

@@ -1,4 +1,4 @@
--- Elaborating the tree of a printed type gives the type.
+-- Elaborating the tree of a printed type or term gives the type or the term.
 use Rattle.std.proofs.Common.{◌≡◌, ℕ, zero, suc, ◌<◌, ◌^◌, List, [], ◌∷◌, Bool, true, false, Option, Some, None, refl, sym, ap, ◌∙◌, subst, arith}
 use Rattle.std.specs.Prelude.{◌||◌, nat_eq}
 use Rattle.std.proofs.lemmas.Bool.{eq-eqb}
@@ -22,11 +22,11 @@ use Rattle.printed_types.proofs.PrintableTypes.{constant_within, family_within}
 use Rattle.printed_types.proofs.PrintedNames.{ArePrinted, outermost, named, unnamed, IsNamed, name_not_bound, constant_found, family_found, bound_found}
 
 -- The names of the variables that occur are known.
-abbrev pub Sees : Bound → (ℕ → Bool) → Type 0
+abbrev Sees : Bound → (ℕ → Bool) → Type 0
 Sees binders occurs = (n : ℕ) → occurs n ≡ true → IsNamed binders n
 
 -- What is known at a place of a printed text.
-pub record IsKnown (sig : LfSignature) (binders : Bound) (depth : ℕ) (Γ : Typing) : Type 0 where
+record IsKnown (sig : LfSignature) (binders : Bound) (depth : ℕ) (Γ : Typing) : Type 0 where
   pub printed : ArePrinted binders depth
   pub constants : (c : ℕ) → Γ (constant c) ≡ type_at (constant_types sig) c
   pub metavariables : (g : ℕ) → Γ (metavariable g) ≡ None
@@ -66,13 +66,13 @@ module _ (text : Text) (sig : LfSignature) (formed : FormedSignature sig) (names
   mutual
     term_read : {binders : Bound} {depth : ℕ} {Γ : Typing} {t : LfTerm} {a : LfType} {tree : Tree} → IsKnown sig binders depth Γ → Sees binders (λ n. mentions_in_term n t) →
         IsWithinDepth (2 ^ 64) depth t → Typed Γ t a → IsPrintedTerm text sig depth t tree → ReadsTerm text sig binders Γ tree a t
-    term_read {binders} {depth} {Γ} known sees within (typed_lam {b = b} {a = a} {c = c} body) (printed_abstraction _ _ tree span inside applied name printed) =
+    term_read {binders} {depth} {Γ} known sees within (typed_lam {b = b} {a = a} {c = c} body) (printed_abstraction _ _ tree binder inside applied name printed) =
         let shown = named binders depth known.printed in
         let known_inside = under sig binders depth Γ a (Some (variable_text depth)) known shown in
         let sees_inside = sees_under (variable_text depth) binders (λ n. mentions_in_term n (lam b)) (λ n. mentions_in_term n b) (λ n. refl) sees in
         let read = term_read known_inside sees_inside within body printed in
-        reads_abstraction binders Γ tree span inside a c b applied
-        (subst (λ binder. ReadsTerm text sig (binder ∷ binders) (with_variable a Γ) inside c b) (sym name) read)
+        reads_abstraction binders Γ tree binder inside a c b applied
+        (subst (λ bound_name. ReadsTerm text sig (bound_name ∷ binders) (with_variable a Γ) inside c b) (sym name) read)
     term_read {binders} {depth} {Γ} known sees within (typed_at {h = h} {ts = ts} {results = results} {f = f} domains args is spine result) (printed_application _ _ _ tree span arguments applied name printed) =
         let read = args_read known (λ n e. sees n (or_right (is_variable n h) (mentions_in_spine n ts) e)) within.1 spine printed in
         let head = ap (named_head sig binders) name ∙ head_read binders depth Γ h ts (pis domains (family f args)) known within.0 sees is in
@@ -115,6 +115,11 @@ module _ (text : Text) (sig : LfSignature) (formed : FormedSignature sig) (names
       let free = name_not_bound binders depth _ known.printed (omega (arith, within.0)) (names.families f (family_within sig f domains is)) in
       reads_family binders Γ count span arguments f domains ts (ap (family_of sig binders) name ∙ family_found sig binders f domains formed is free) is
       (args_read known sees within.1 spine printed)
+
+  pub whole_term_read : (t : LfTerm) (a : LfType) (tree : Tree) → IsWithinDepth (2 ^ 64) 0 t → Typed (typing_in sig [] []) t a → ((n : ℕ) → mentions_in_term n t ≡ true → ⊥) →
+      IsPrintedTerm text sig 0 t tree → ReadsTerm text sig [] (typing_in sig [] []) tree a t
+  whole_term_read t a tree within typed closed printed =
+      term_read (record { printed = outermost; constants = λ c. refl; metavariables = λ g. refl }) (λ n e. absurd (closed n e)) within typed printed
 
   pub whole_read : (a : LfType) (tree : Classifier) → IsTypeWithinDepth (2 ^ 64) 0 a → HasFewBinders 0 a → Formed (kinds_in sig) (typing_in sig [] []) a → ((n : ℕ) → mentions n a ≡ true → ⊥) →
       IsPrintedType text sig 0 a tree → ReadsType text sig [] (typing_in sig [] []) 0 tree a

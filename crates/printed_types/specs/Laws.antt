@@ -30,7 +30,7 @@ pub record ReadsBack (sig : LfSignature) (bytes : List ℕ) (a : LfType) : Type 
   pub tree : Classifier
   pub parsed : IsType (terminals_of bytes tokens) [] tree
   pub shallow : IsShallow (terminals_of bytes tokens)
-  pub read : ReadsType (record { bytes = bytes; tokens = tokens }) sig [] (typing_in sig [] []) 0 tree a
+  pub read : ReadsType bytes sig [] (typing_in sig [] []) 0 tree a
 
 -- What is printed for a well-formed type reads back, where the names are names of the grammar, no type within it has more than 1,000 binders,
 -- and the text is nested at most 256 deep.

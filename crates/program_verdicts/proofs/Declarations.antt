@@ -2,13 +2,13 @@
 use Rattle.std.proofs.Common.{◌≡◌, ℕ, ◌<◌, ◌≤◌, ◌⊎◌, inl, inr, Option, Some, None, List, [], length, refl}
 use Rattle.basics.specs.Limits.{most_symbols, most_rules, most_theorems}
 use Rattle.basics.specs.Places.{place_of}
-use Rattle.lf_definitions.specs.Signatures.{LfSignature, names_of, typing_in, FormedSignature}
+use Rattle.lf_definitions.specs.Signatures.{names_of, typing_in, FormedSignature}
 use Rattle.lf_definitions.proofs.Options.{None-Some}
 use Rattle.file_trees.specs.declared.span.Span.{Span}
 use Rattle.file_trees.specs.declared.decl_tree.DeclTree.{DeclTree}
 use Rattle.file_trees.specs.declared.decl_tree.DeclTree.TheVariants.{Family, Const, Theorem, Rule as rule_tree, Ctors}
-use Rattle.file_trees.specs.declared.decl_tree.PhaseWord.{PhaseWord}
-use Rattle.file_trees.specs.declared.decl_tree.BuildWord.{BuildWord}
+use Rattle.file_trees.specs.declared.decl_tree.TheoremTree.{TheoremTree}
+use Rattle.file_trees.specs.declared.decl_tree.RuleTree.{RuleTree}
 use Rattle.file_trees.specs.Trees.{Classifier}
 use Rattle.elab_terms.specs.Names.{Text, text_at}
 use Rattle.elab_terms.specs.declared.elab_fault.ElabFault.{ElabFault}
@@ -56,19 +56,15 @@ module _ (text : Text) (old : LfProgram) where
   constant_judged name tree (inl may) (inl (type, read)) = inl (_, declares_constant name tree type may read)
   constant_judged name tree (inl may) (inr (fault, refused)) = inr (fault, refuses_constant_type name tree fault may refused)
 
-  theorem_judged : (name : Span) (tree : Classifier) → NameJudged (theorem_names old) most_theorems text name → TypeRead tree → DeclarationJudged (Theorem name tree)
-  theorem_judged name tree (inr (fault, refused)) type = inr (fault, refuses_theorem_name name tree fault refused)
-  theorem_judged name tree (inl may) (inl (type, read)) = inl (_, declares_theorem name tree type may read)
-  theorem_judged name tree (inl may) (inr (fault, refused)) = inr (fault, refuses_theorem_type name tree fault may refused)
+  theorem_judged : (tree : TheoremTree) → NameJudged (theorem_names old) most_theorems text tree.name → TypeRead tree.statement → DeclarationJudged (Theorem tree)
+  theorem_judged tree (inr (fault, refused)) type = inr (fault, refuses_theorem_name tree fault refused)
+  theorem_judged tree (inl may) (inl (type, read)) = inl (_, declares_theorem tree type may read)
+  theorem_judged tree (inl may) (inr (fault, refused)) = inr (fault, refuses_theorem_type tree fault may refused)
 
-  rule_declared : (name number subject : Span) (phase : PhaseWord) (builder : BuildWord) (major set : Option Span) → NameJudged (rule_names old) most_rules text name →
-      RuleJudged text old.signature old.book name number subject phase builder major set → DeclarationJudged (rule_tree name phase number builder subject major set)
-  rule_declared name number subject phase builder major set (inr (fault, refused)) parts =
-      inr (fault, refuses_rule_name name number subject phase builder major set fault refused)
-  rule_declared name number subject phase builder major set (inl may) (inl (rule, read)) =
-      inl (_, declares_rule name number subject phase builder major set rule may read)
-  rule_declared name number subject phase builder major set (inl may) (inr (fault, refused)) =
-      inr (fault, refuses_rule_part name number subject phase builder major set fault may refused)
+  rule_declared : (parts : RuleTree) → NameJudged (rule_names old) most_rules text parts.name → RuleJudged text old.signature old.book parts → DeclarationJudged (rule_tree parts)
+  rule_declared parts (inr (fault, refused)) rule = inr (fault, refuses_rule_name parts fault refused)
+  rule_declared parts (inl may) (inl (rule, read)) = inl (_, declares_rule parts rule may read)
+  rule_declared parts (inl may) (inr (fault, refused)) = inr (fault, refuses_rule_part parts fault may refused)
 
   pub declaration_judged : FormedSignature old.signature → (declaration : DeclTree) → DeclarationJudged declaration
   declaration_judged formed (Family name tree) =
@@ -77,10 +73,9 @@ module _ (text : Text) (old : LfProgram) where
   declaration_judged formed (Const name tree) =
       constant_judged name tree (name_judged (names_of old.signature) most_symbols text name)
       (type_judged text old.signature tree [] (typing_in old.signature [] []) (closed_place old.signature formed) 0)
-  declaration_judged formed (Theorem name tree) =
-      theorem_judged name tree (name_judged (theorem_names old) most_theorems text name)
-      (type_judged text old.signature tree [] (typing_in old.signature [] []) (closed_place old.signature formed) 0)
-  declaration_judged formed (rule_tree name phase number builder subject major set) =
-      rule_declared name number subject phase builder major set (name_judged (rule_names old) most_rules text name)
-      (rule_judged text old.signature old.book name number subject phase builder major set)
+  declaration_judged formed (Theorem tree) =
+      theorem_judged tree (name_judged (theorem_names old) most_theorems text tree.name)
+      (type_judged text old.signature tree.statement [] (typing_in old.signature [] []) (closed_place old.signature formed) 0)
+  declaration_judged formed (rule_tree parts) =
+      rule_declared parts (name_judged (rule_names old) most_rules text parts.name) (rule_judged text old.signature old.book parts)
   declaration_judged formed (Ctors name spans) = list_judged text old name spans

@@ -16,6 +16,6 @@ formed_after {text = text} {old = old} (declares_constant name tree type may rea
     let entry = constant_entry (text_at text name) type in
     formed_more old.signature (old.signature ++ entry ∷ []) entry formed (place_absent (text_at text name) (names_of old.signature) may.new)
     (Formed-ReadsType read (Founded-typing_in old.signature formed)) refl
-formed_after (declares_theorem name tree type may read) formed = formed
-formed_after (declares_rule name number subject phase builder major set rule may read) formed = formed
+formed_after (declares_theorem tree type may read) formed = formed
+formed_after (declares_rule parts rule may read) formed = formed
 formed_after (declares_constructors name spans f constants known none are fit) formed = formed

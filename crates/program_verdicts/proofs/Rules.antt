@@ -1,11 +1,10 @@
 -- The parts of a rule of a file are read as a rule, or refused.
-use Rattle.std.proofs.Common.{◌≡◌, ℕ, zero, suc, ◌<◌, ◌≤◌, ◌⊎◌, inl, inr, Option, Some, None, refl, sym, ap, ◌∙◌, subst, arith}
+use Rattle.std.proofs.Common.{◌≡◌, ℕ, ◌<◌, ◌≤◌, ◌⊎◌, inl, inr, Option, Some, None, refl, sym, ap, subst, arith}
 use Rattle.std.specs.Prelude.{◌≢◌, ℤ, pos, negsuc, ◌≤ℤ◌}
 use Rattle.lf_definitions.specs.Signatures.{LfSignature}
-use Rattle.file_trees.specs.declared.span.Span.{Span}
+use Rattle.file_trees.specs.declared.decl_tree.RuleTree.{RuleTree}
 use Rattle.file_trees.specs.declared.decl_tree.PhaseWord.{PhaseWord}
 use Rattle.file_trees.specs.declared.decl_tree.PhaseWord.TheVariants as phase_words
-use Rattle.file_trees.specs.declared.decl_tree.BuildWord.{BuildWord}
 use Rattle.rule_sets.specs.declared.rule.Phase.{Phase}
 use Rattle.rule_sets.specs.declared.rule.Phase.TheVariants.{Norm, Safe, Unsafe}
 use Rattle.rule_sets.specs.declared.rule.Builder.{Builder}
@@ -16,7 +15,7 @@ use Rattle.rule_sets.specs.Refusals.{IsMajor, HasBadPremises}
 use Rattle.elab_terms.specs.Names.{Text, text_at}
 use Rattle.elab_terms.specs.declared.elab_fault.ElabFault.{ElabFault}
 use Rattle.elab_terms.specs.declared.elab_fault.ElabFault.TheVariants.{Unknown, BadRule}
-use Rattle.file_elab.specs.Rules.{number_value, ReadsPhase, reads_norm, reads_safe, reads_unsafe, HasPhase, builder_of, subject_of, major_value, major_place, set_of, IsMajorNumber, HasMajorPlace, ReadsRule, RefusesRule, refuses_number, refuses_subject, refuses_major, refuses_premises}
+use Rattle.file_elab.specs.Rules.{number_value, ReadsPhase, reads_norm, reads_safe, reads_unsafe, HasPhase, builder_of, subject_of, major_value, major_place, set_of, HasMajorPlace, ReadsRule, RefusesRule, refuses_number, refuses_subject, refuses_major, refuses_premises}
 use Rattle.program_verdicts.proofs.Decisions.{HoldsOrNot, below_or_not, same_or_not, between, major_or_not, premises_or_not}
 
 -- The number is one of the phase.
@@ -106,32 +105,33 @@ bad_or_not sig Assumption subject = inr (λ h. h)
 bad_or_not sig Hyps subject = inr (λ h. h)
 
 -- The parts, one after another.
-module _ (text : Text) (sig : LfSignature) (book : Book) (name number subject : Span) (word : PhaseWord) (builder : BuildWord) (major set : Option Span) where
+module _ (text : Text) (sig : LfSignature) (book : Book) (parts : RuleTree) where
   abbrev pub RuleJudged : Type 0
-  RuleJudged =
-      ((rule : Rule) × ReadsRule text sig book name word number builder subject major set rule)
-      ⊎ ((fault : ElabFault) × RefusesRule text sig book word number builder subject major fault)
+  RuleJudged = ((rule : Rule) × ReadsRule text sig book parts rule) ⊎ ((fault : ElabFault) × RefusesRule text sig book parts fault)
 
-  module _ (phase : HasPhase text word number) (found : ℕ) (found_is : subject_of sig book (builder_of builder) (text_at text subject) ≡ Some found) where
-    by_premises : HasMajorPlace sig (builder_of builder) found (major_value text major) → HoldsOrNot (HasBadPremises sig (builder_of builder) found) → RuleJudged
-    by_premises place (inl bad) = inr (BadRule subject.start, refuses_premises found phase found_is place bad)
+  abbrev builder : Builder
+  builder = builder_of parts.builder
+
+  module _ (phase : HasPhase text parts.phase parts.number) (found : ℕ) (found_is : subject_of sig book builder (text_at text parts.subject) ≡ Some found) where
+    by_premises : HasMajorPlace sig builder found (major_value text parts.major) → HoldsOrNot (HasBadPremises sig builder found) → RuleJudged
+    by_premises place (inl bad) = inr (BadRule parts.subject.start, refuses_premises found phase found_is place bad)
     by_premises place (inr good) =
         inl (
-          record { name = text_at text name; set = set_of text set; phase = phase.0; builder = builder_of builder; subject = found; major = place.0 },
+          record { name = text_at text parts.name; set = set_of text parts.set; phase = phase.0; builder = builder; subject = found; major = place.0 },
           record { name_is = refl; set_is = refl; phase_is = phase.1; builder_is = refl; subject_is = found_is; major_is = place.1; premises_are = good },
         )
 
-    by_major : HoldsOrNot (HasMajorPlace sig (builder_of builder) found (major_value text major)) → RuleJudged
-    by_major (inl place) = by_premises place (bad_or_not sig (builder_of builder) found)
-    by_major (inr none) = inr (BadRule (major_place subject major), refuses_major found phase found_is none)
+    by_major : HoldsOrNot (HasMajorPlace sig builder found (major_value text parts.major)) → RuleJudged
+    by_major (inl place) = by_premises place (bad_or_not sig builder found)
+    by_major (inr none) = inr (BadRule (major_place parts.subject parts.major), refuses_major found phase found_is none)
 
-  by_subject : HasPhase text word number → (o : Option ℕ) → subject_of sig book (builder_of builder) (text_at text subject) ≡ o → RuleJudged
-  by_subject phase None none = inr (Unknown subject.start, refuses_subject phase none)
-  by_subject phase (Some found) is = by_major phase found is (major_there sig (builder_of builder) found (major_value text major))
+  by_subject : HasPhase text parts.phase parts.number → (o : Option ℕ) → subject_of sig book builder (text_at text parts.subject) ≡ o → RuleJudged
+  by_subject phase None none = inr (Unknown parts.subject.start, refuses_subject phase none)
+  by_subject phase (Some found) is = by_major phase found is (major_there sig builder found (major_value text parts.major))
 
-  by_phase : HoldsOrNot (HasPhase text word number) → RuleJudged
-  by_phase (inl phase) = by_subject phase (subject_of sig book (builder_of builder) (text_at text subject)) refl
-  by_phase (inr none) = inr (BadRule number.start, refuses_number none)
+  by_phase : HoldsOrNot (HasPhase text parts.phase parts.number) → RuleJudged
+  by_phase (inl phase) = by_subject phase (subject_of sig book builder (text_at text parts.subject)) refl
+  by_phase (inr none) = inr (BadRule parts.number.start, refuses_number none)
 
   pub rule_judged : RuleJudged
-  rule_judged = by_phase (phase_or_not word (number_value (text_at text number)))
+  rule_judged = by_phase (phase_or_not parts.phase (number_value (text_at text parts.number)))

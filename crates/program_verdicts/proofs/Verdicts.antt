@@ -1,8 +1,6 @@
 -- Declarations have one verdict: they are taken one after another, up to the first that is refused.
-use Rattle.std.proofs.Common.{◌≡◌, ℕ, ◌⊎◌, inl, inr, List, [], ◌∷◌, ◌++◌, append_assoc, refl, sym, ap, ◌∙◌, subst}
+use Rattle.std.proofs.Common.{◌≡◌, inl, inr, List, [], ◌∷◌, ◌++◌, append_assoc, refl, sym, ap, ◌∙◌, subst}
 use Rattle.std.proofs.lemmas.List.{append-nil}
-use Rattle.lex_text.specs.declared.token.Token.{Token}
-use Rattle.lex_text.specs.Tokens.{TokensOf}
 use Rattle.lf_definitions.specs.Signatures.{FormedSignature, formed_nothing}
 use Rattle.file_trees.specs.declared.decl_tree.DeclTree.{DeclTree}
 use Rattle.elab_terms.specs.Names.{Text}
@@ -13,12 +11,9 @@ use Rattle.program_verdicts.specs.Verdicts.{Verdict, makes, refused_for, IsVerdi
 use Rattle.program_verdicts.proofs.Formed.{formed_after}
 use Rattle.program_verdicts.proofs.Declarations.{DeclarationJudged, declaration_judged}
 
-module _ (bytes : List ℕ) (tokens : List Token) (declarations : List DeclTree) (cut : TokensOf bytes tokens) where
+module _ (text : Text) (declarations : List DeclTree) where
   abbrev SomeVerdict : Type 0
-  SomeVerdict = (verdict : Verdict) × IsVerdict bytes declarations verdict
-
-  abbrev text : Text
-  text = record { bytes = bytes; tokens = tokens }
+  SomeVerdict = (verdict : Verdict) × IsVerdict text declarations verdict
 
   -- The declarations of a prefix make a program.
   record Taken (prefix : List DeclTree) : Type 0 where
@@ -30,7 +25,7 @@ module _ (bytes : List ℕ) (tokens : List Token) (declarations : List DeclTree)
   nothing_taken = record { program = first_program; formed = formed_nothing; declared = declares_nothing first_program }
 
   all_taken : (taken : Taken declarations) → SomeVerdict
-  all_taken taken = (makes taken.program, (tokens, cut, taken.declared))
+  all_taken taken = (makes taken.program, taken.declared)
 
   by_next : (prefix : List DeclTree) (declaration : DeclTree) (rest : List DeclTree) → declarations ≡ prefix ++ declaration ∷ rest → (taken : Taken prefix) →
       (Taken (prefix ++ declaration ∷ []) → SomeVerdict) → DeclarationJudged text taken.program declaration → SomeVerdict
@@ -39,8 +34,6 @@ module _ (bytes : List ℕ) (tokens : List Token) (declarations : List DeclTree)
   by_next prefix declaration rest parts taken further (inr (fault, refused)) = (
     refused_for fault,
     record {
-      tokens = tokens;
-      cut = cut;
       prefix = prefix;
       declaration = declaration;
       rest = rest;
@@ -62,13 +55,13 @@ module _ (bytes : List ℕ) (tokens : List Token) (declarations : List DeclTree)
   some_verdict = taken_on declarations [] refl nothing_taken
 
 -- Two verdicts are one.
-pub same_verdict : (bytes : List ℕ) (declarations : List DeclTree) (verdict other : Verdict) → IsVerdict bytes declarations verdict → IsVerdict bytes declarations other → verdict ≡ other
-same_verdict bytes declarations (makes program) (makes other) h k = ap makes (one_program_of_file bytes declarations program other h k)
-same_verdict bytes declarations (makes program) (refused_for fault) h k = absurd (program_not_refused bytes declarations program fault h k)
-same_verdict bytes declarations (refused_for fault) (makes program) h k = absurd (program_not_refused bytes declarations program fault k h)
-same_verdict bytes declarations (refused_for fault) (refused_for other) h k = ap refused_for (one_fault_of_file bytes declarations fault other h k)
+pub same_verdict : (text : Text) (declarations : List DeclTree) (verdict other : Verdict) → IsVerdict text declarations verdict → IsVerdict text declarations other → verdict ≡ other
+same_verdict text declarations (makes program) (makes other) h k = ap makes (one_program_of_file text declarations program other h k)
+same_verdict text declarations (makes program) (refused_for fault) h k = absurd (program_not_refused text declarations program fault h k)
+same_verdict text declarations (refused_for fault) (makes program) h k = absurd (program_not_refused text declarations program fault k h)
+same_verdict text declarations (refused_for fault) (refused_for other) h k = ap refused_for (one_fault_of_file text declarations fault other h k)
 
 pub declarations_have_one_verdict : DeclarationsHaveOneVerdict
-declarations_have_one_verdict bytes tokens declarations cut =
-    let found = some_verdict bytes tokens declarations cut in
-    record { verdict = found.0; holds = found.1; alone = λ other h. same_verdict bytes declarations other found.0 h found.1 }
+declarations_have_one_verdict text declarations =
+    let found = some_verdict text declarations in
+    record { verdict = found.0; holds = found.1; alone = λ other h. same_verdict text declarations other found.0 h found.1 }

@@ -1,7 +1,5 @@
 -- What there is to say of the declarations of a file: the program that they make, or why they make none.
 use Rattle.std.specs.Prelude.{◌≡◌, ℕ, List}
-use Rattle.lex_text.specs.declared.token.Token.{Token}
-use Rattle.lex_text.specs.Tokens.{TokensOf}
 use Rattle.file_trees.specs.declared.decl_tree.DeclTree.{DeclTree}
 use Rattle.elab_terms.specs.declared.elab_fault.ElabFault.{ElabFault}
 use Rattle.file_elab.specs.Programs.{LfProgram, IsProgram, IsRefused}
@@ -22,7 +20,6 @@ pub record HasOneVerdict (bytes : List ℕ) (declarations : List DeclTree) : Typ
   pub holds : IsVerdict bytes declarations verdict
   pub alone : (other : Verdict) → IsVerdict bytes declarations other → other ≡ verdict
 
--- Where the bytes have tokens any declarations have one verdict, those of the bytes by the grammar among them.
+-- So any declarations have one verdict with any bytes, those of the bytes by the grammar among them.
 abbrev pub DeclarationsHaveOneVerdict : Type 0
-DeclarationsHaveOneVerdict =
-    (bytes : List ℕ) (tokens : List Token) (declarations : List DeclTree) → TokensOf bytes tokens → HasOneVerdict bytes declarations
+DeclarationsHaveOneVerdict = (bytes : List ℕ) (declarations : List DeclTree) → HasOneVerdict bytes declarations

@@ -7,7 +7,7 @@
 
 ghost use Rattle.program_verdicts.specs.Verdicts.{DeclarationsHaveOneVerdict};
 
-/// Declarations, with the bytes of a file that has tokens, have exactly one verdict.
+/// Declarations, with the bytes of any file, have exactly one verdict.
 pub fn declarations_have_one_verdict()
     ensures { DeclarationsHaveOneVerdict }
 {}

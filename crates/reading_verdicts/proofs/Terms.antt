@@ -13,6 +13,7 @@ use Rattle.lf_definitions.proofs.Decisions.{SameOrNot, pis-binders_of, Goes-Type
 use Rattle.lf_definitions.proofs.ShapedGoals.{ShapedTyping-head, ShapedContext-pis, ShapedType-under_pis}
 use Rattle.typing_laws.specs.EtaLaws.{expanded}
 use Rattle.file_trees.specs.declared.span.Span.{Span}
+use Rattle.file_trees.specs.declared.span.BinderSpan.{BinderSpan}
 use Rattle.file_trees.specs.Trees.{Tree, leaf, abstraction, head, apply}
 use Rattle.file_trees.specs.Places.{tree_place}
 use Rattle.elab_terms.specs.Applied.{base_of, arguments_of}
@@ -92,26 +93,26 @@ module _ (text : Text) (sig : LfSignature) where
         counted span h domains (conclusion typed.0) (family_args_of typed.0) first_is resolved (typed.1 ∙ ap (λ a. Some a) (sym (pis-binders_of typed.0))) all
         (below_or_not (length domains) (length (arguments_of tree [])))
 
-    body_judged : (span : Span) (body : Tree) (a c : LfType) → base_of tree ≡ abstraction span body → arguments_of tree [] ≡ [] →
-        TermJudged (binder_name text span ∷ binders) (with_variable a Γ) body c → TermJudged binders Γ tree (pi a c)
-    body_judged span body a c first_is none (inl (b, read)) = inl (lam b, reads_abstraction binders Γ tree span body a c b (first_is, none) read)
-    body_judged span body a c first_is none (inr (fault, refused)) = inr (fault, refuses_body binders Γ tree span body a c fault (first_is, none) refused)
+    body_judged : (binder : BinderSpan) (body : Tree) (a c : LfType) → base_of tree ≡ abstraction binder body → arguments_of tree [] ≡ [] →
+        TermJudged (binder_name text binder ∷ binders) (with_variable a Γ) body c → TermJudged binders Γ tree (pi a c)
+    body_judged binder body a c first_is none (inl (b, read)) = inl (lam b, reads_abstraction binders Γ tree binder body a c b (first_is, none) read)
+    body_judged binder body a c first_is none (inr (fault, refused)) = inr (fault, refuses_body binders Γ tree binder body a c fault (first_is, none) refused)
 
-  abstracted : (binders : Bound) (Γ : Typing) → Place sig Γ binders → (tree : Tree) (wanted : LfType) → IsWanted sig Γ wanted → (span : Span) (body : Tree) → base_of tree ≡ abstraction span body →
+  abstracted : (binders : Bound) (Γ : Typing) → Place sig Γ binders → (tree : Tree) (wanted : LfType) → IsWanted sig Γ wanted → (binder : BinderSpan) (body : Tree) → base_of tree ≡ abstraction binder body →
       IsJudged text sig body → (arguments : List Tree) → arguments_of tree [] ≡ arguments → TermJudged binders Γ tree wanted
-  abstracted binders Γ place tree wanted shaped span body first_is judged (argument ∷ arguments) are =
-      inr (Redex span.start, refuses_redex binders Γ tree argument span body arguments wanted (first_is, are))
-  abstracted binders Γ place tree (family f args) shaped span body first_is judged [] are =
-      inr (IllTyped span.start, refuses_abstraction binders Γ tree span body f args (first_is, are))
-  abstracted binders Γ place tree (pi a c) shaped span body first_is judged [] are =
-      body_judged binders Γ place tree (pi a c) shaped span body a c first_is are
-      (judged (binder_name text span ∷ binders) (with_variable a Γ) (place_under sig Γ binders (binder_name text span) a place (wanted_binder sig Γ (pi a c) a c refl shaped)) c
+  abstracted binders Γ place tree wanted shaped binder body first_is judged (argument ∷ arguments) are =
+      inr (Redex binder.opening, refuses_redex binders Γ tree argument binder body arguments wanted (first_is, are))
+  abstracted binders Γ place tree (family f args) shaped binder body first_is judged [] are =
+      inr (IllTyped binder.opening, refuses_abstraction binders Γ tree binder body f args (first_is, are))
+  abstracted binders Γ place tree (pi a c) shaped binder body first_is judged [] are =
+      body_judged binders Γ place tree (pi a c) shaped binder body a c first_is are
+      (judged (binder_name text binder ∷ binders) (with_variable a Γ) (place_under sig Γ binders (binder_name text binder) a place (wanted_binder sig Γ (pi a c) a c refl shaped)) c
       (wanted_under sig Γ (with_variable a Γ) (pi a c) a c refl refl shaped))
 
   -- The parts of a tree are judged: its arguments, and the body of an abstraction that it begins with.
   abbrev BodyJudged : Tree → Type 0
   BodyJudged (leaf span) = Unit {0}
-  BodyJudged (abstraction span body) = IsJudged text sig body
+  BodyJudged (abstraction binder body) = IsJudged text sig body
   BodyJudged (head tree) = ⊥
   BodyJudged (apply tree argument) = ⊥
 
@@ -121,8 +122,8 @@ module _ (text : Text) (sig : LfSignature) where
   by_first : (tree first : Tree) → base_of tree ≡ first → AreJudged text sig (arguments_of tree []) → BodyJudged first → IsJudged text sig tree
   by_first tree (leaf span) first_is all body binders Γ place wanted shaped =
       named binders Γ place tree wanted shaped span first_is all (named_head sig binders (text_at text span)) refl
-  by_first tree (abstraction span inner) first_is all body binders Γ place wanted shaped =
-      abstracted binders Γ place tree wanted shaped span inner first_is body (arguments_of tree []) refl
+  by_first tree (abstraction binder inner) first_is all body binders Γ place wanted shaped =
+      abstracted binders Γ place tree wanted shaped binder inner first_is body (arguments_of tree []) refl
   by_first tree (head inner) first_is all body binders Γ place wanted shaped = absurd body
   by_first tree (apply inner argument) first_is all body binders Γ place wanted shaped = absurd body
 
@@ -131,7 +132,7 @@ module _ (text : Text) (sig : LfSignature) where
 
   parts_judged : (tree : Tree) → PartsJudged tree
   parts_judged (leaf span) = ((λ after all. all), tt)
-  parts_judged (abstraction span body) = ((λ after all. all), by_parts body (parts_judged body))
+  parts_judged (abstraction binder body) = ((λ after all. all), by_parts body (parts_judged body))
   parts_judged (head tree) = parts_judged tree
   parts_judged (apply tree argument) =
       let inside = parts_judged tree in

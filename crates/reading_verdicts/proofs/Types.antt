@@ -92,9 +92,9 @@ module _ (text : Text) (sig : LfSignature) where
     with_binder start whole domain rest name is first further (inr many) = inr (TooMany start, refuses_binder binders Γ count start whole domain rest name is many)
 
   pub type_judged : (tree : Classifier) (binders : Bound) (Γ : Typing) → Place sig Γ binders → (count : ℕ) → TypeJudged binders Γ count tree
-  type_judged (trees.pi span domain rest) binders Γ place count =
-      with_binder binders Γ place count span.start (trees.pi span domain rest) domain rest (binder_name text span) (pi_binder span domain rest) (type_judged domain binders Γ place 0)
-      (λ a shaped. type_judged rest (binder_name text span ∷ binders) (with_variable a Γ) (place_under sig Γ binders (binder_name text span) a place shaped) (suc count))
+  type_judged (trees.pi binder domain rest) binders Γ place count =
+      with_binder binders Γ place count binder.opening (trees.pi binder domain rest) domain rest (binder_name text binder) (pi_binder binder domain rest) (type_judged domain binders Γ place 0)
+      (λ a shaped. type_judged rest (binder_name text binder ∷ binders) (with_variable a Γ) (place_under sig Γ binders (binder_name text binder) a place shaped) (suc count))
       (below_or_not count most_binders)
   type_judged (trees.arrow left right) binders Γ place count =
       with_binder binders Γ place count (classifier_place left) (trees.arrow left right) left right None (arrow_binder left right) (type_judged left binders Γ place 0)
@@ -113,9 +113,9 @@ module _ (text : Text) (sig : LfSignature) where
     with_kind_domain (inr (fault, refused)) further = inr (fault, refuses_kind_domain binders Γ start whole domain rest name fault is refused)
 
   pub kind_judged : (tree : Classifier) (binders : Bound) (Γ : Typing) → Place sig Γ binders → KindJudged binders Γ tree
-  kind_judged (trees.pi span domain rest) binders Γ place =
-      with_kind_domain binders Γ place span.start (trees.pi span domain rest) domain rest (binder_name text span) (pi_binder span domain rest) (type_judged domain binders Γ place 0)
-      (λ a shaped. kind_judged rest (binder_name text span ∷ binders) (with_variable a Γ) (place_under sig Γ binders (binder_name text span) a place shaped))
+  kind_judged (trees.pi binder domain rest) binders Γ place =
+      with_kind_domain binders Γ place binder.opening (trees.pi binder domain rest) domain rest (binder_name text binder) (pi_binder binder domain rest) (type_judged domain binders Γ place 0)
+      (λ a shaped. kind_judged rest (binder_name text binder ∷ binders) (with_variable a Γ) (place_under sig Γ binders (binder_name text binder) a place shaped))
   kind_judged (trees.arrow left right) binders Γ place =
       with_kind_domain binders Γ place (classifier_place left) (trees.arrow left right) left right None (arrow_binder left right) (type_judged left binders Γ place 0)
       (λ a shaped. kind_judged right (None ∷ binders) (with_variable a Γ) (place_under sig Γ binders None a place shaped))

@@ -1,7 +1,6 @@
 use Rattle.std.proofs.Common.{[], sym, subst}
 use Rattle.lf_definitions.specs.Signatures.{typing_in}
 use Rattle.elab_terms.specs.KnownTypes.{KnownAt, IsRefusal}
-use Rattle.elab_terms.specs.FileTexts.{text_in}
 use Rattle.elab_terms.specs.Types.{ReadsKind, RefusesKind}
 use Rattle.elab_terms.proofs.ReadTyped.{FormedKind-ReadsKind, Founded-typing_in}
 use Rattle.elab_terms.proofs.ClosedScopes.{known_closed}
@@ -15,7 +14,7 @@ read_kind-requires-clause-known c =
 pub returns-clause-read : goal.returns-clause-read
 returns-clause-read c =
     let sig = c.args.sig.now in
-    subst (λ b. ReadsKind (text_in c.args.source.now) sig b (typing_in sig [] []) c.args.tree.now c.in-Ok.kind.binders) c.new-names.ensures c.in-Ok.ensures.read
+    subst (λ b. ReadsKind c.args.source.now sig b (typing_in sig [] []) c.args.tree.now c.in-Ok.kind.binders) c.new-names.ensures c.in-Ok.ensures.read
 
 pub returns-clause-formed : goal.returns-clause-formed
 returns-clause-formed c =
@@ -25,4 +24,4 @@ returns-clause-formed c =
 pub returns-in-Err-clause-refused : goal.returns-in-Err-clause-refused
 returns-in-Err-clause-refused c =
     let sig = c.args.sig.now in
-    subst (λ b. IsRefusal (RefusesKind (text_in c.args.source.now) sig b (typing_in sig [] []) c.args.tree.now) c.in-Err.fault) c.new-names.ensures c.in-Err.ensures.refused
+    subst (λ b. IsRefusal (RefusesKind c.args.source.now sig b (typing_in sig [] []) c.args.tree.now) c.in-Err.fault) c.new-names.ensures c.in-Err.ensures.refused

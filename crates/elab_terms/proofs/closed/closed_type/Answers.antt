@@ -2,7 +2,6 @@ use Rattle.std.proofs.Common.{[], sym, subst}
 use Rattle.lf_definitions.specs.Signatures.{typing_in}
 use Rattle.lf_terms.specs.Types.{type_of}
 use Rattle.elab_terms.specs.KnownTypes.{KnownAt, IsRefusal}
-use Rattle.elab_terms.specs.FileTexts.{text_in}
 use Rattle.elab_terms.specs.Types.{ReadsType, RefusesType}
 use Rattle.elab_terms.proofs.ReadTyped.{Formed-ReadsType, Founded-typing_in}
 use Rattle.elab_terms.proofs.ClosedScopes.{known_closed}
@@ -16,7 +15,7 @@ read_type-requires-clause-known c =
 pub returns-clause-read : goal.returns-clause-read
 returns-clause-read c =
     let sig = c.args.sig.now in
-    subst (λ b. ReadsType (text_in c.args.source.now) sig b (typing_in sig [] []) 0 c.args.tree.now (type_of c.in-Ok.ty)) c.new-names.ensures c.in-Ok.ensures.read
+    subst (λ b. ReadsType c.args.source.now sig b (typing_in sig [] []) 0 c.args.tree.now (type_of c.in-Ok.ty)) c.new-names.ensures c.in-Ok.ensures.read
 
 pub returns-clause-formed : goal.returns-clause-formed
 returns-clause-formed c =
@@ -26,4 +25,4 @@ returns-clause-formed c =
 pub returns-in-Err-clause-refused : goal.returns-in-Err-clause-refused
 returns-in-Err-clause-refused c =
     let sig = c.args.sig.now in
-    subst (λ b. IsRefusal (RefusesType (text_in c.args.source.now) sig b (typing_in sig [] []) 0 c.args.tree.now) c.in-Err.fault) c.new-names.ensures c.in-Err.ensures.refused
+    subst (λ b. IsRefusal (RefusesType c.args.source.now sig b (typing_in sig [] []) 0 c.args.tree.now) c.in-Err.fault) c.new-names.ensures c.in-Err.ensures.refused

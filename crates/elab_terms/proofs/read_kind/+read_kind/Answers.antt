@@ -37,7 +37,7 @@ pub read_kind_rest-read_kind_last-requires : goal.read_kind_rest-read_kind_last-
 read_kind_rest-read_kind_last-requires t c =
     let a = c.args in (
       omega (arith, c.decreases, last_falls c.parts.result.1.now c.parts.result.0.now a.tree.now c.parts.ensures.last c.parts.ensures.whole),
-      (c.requires.cut, (c.requires.closed, c.in-Ok.ensures.read.known)),
+      (c.requires.closed, c.in-Ok.ensures.read.known),
     )
 
 pub read_kind_rest-returns-in-Ok-read_kind_last-clause-read : goal.read_kind_rest-returns-in-Ok-read_kind_last-clause-read

@@ -42,11 +42,8 @@ read_binders-read_type-requires t c =
     let item = c.index-items-i-in-loop-i.result in (
       omega (arith, c.decreases, ap classifier_size c.domain.ensures, domain_falls a.items.now c.loop-i.i item c.loop-i-test.true c.index-items-i-in-loop-i.is),
       (
-        c.requires.cut,
-        (
-          c.requires.closed,
-          subst (λ xs. KnownAt a.reader.now.sig.now (with_context (types_of xs) Γ) c.loop-i.names) (sym c.as_slice.ensures.value) c.loop-i.invariant.known,
-        ),
+        c.requires.closed,
+        subst (λ xs. KnownAt a.reader.now.sig.now (with_context (types_of xs) Γ) c.loop-i.names) (sym c.as_slice.ensures.value) c.loop-i.invariant.known,
       ),
     )
 
@@ -111,14 +108,14 @@ read_rest-read_binders-requires t c =
     let a = c.args in
     let whole = ap (λ bs. bind bs (last_of c.parts.result.1.now)) c.as_slice.ensures ∙ c.parts.ensures.whole in (
       omega (arith, c.decreases, binders_fall (bindings_of c.as_slice.result.now) (last_of c.parts.result.1.now) a.tree.now whole),
-      (c.requires.cut, (c.requires.closed, c.requires.known)),
+      (c.requires.closed, c.requires.known),
     )
 
 pub read_rest-read_last-requires : goal.read_rest-read_last-requires
 read_rest-read_last-requires t c =
     let a = c.args in (
       omega (arith, c.decreases, last_falls c.parts.result.1.now c.parts.result.0.now a.tree.now c.parts.ensures.last c.parts.ensures.whole),
-      (c.requires.cut, (c.requires.closed, c.in-Ok.ensures.read.known)),
+      (c.requires.closed, c.in-Ok.ensures.read.known),
     )
 
 pub read_rest-returns-in-Ok-read_last-clause-read : goal.read_rest-returns-in-Ok-read_last-clause-read

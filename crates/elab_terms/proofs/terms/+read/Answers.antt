@@ -46,13 +46,13 @@ read_term-unreachable-requires t c =
 pub read_abstraction-returns-then-binders-eq0-clause-refused : goal.read_abstraction-returns-then-binders-eq0-clause-refused
 read_abstraction-returns-then-binders-eq0-clause-refused t c =
     let a = c.args in
-    abstraction_ill (whole_text a.reader.now) a.reader.now.sig.now a.names.now (typing_by a.reader.now a.scope.now) (tree_of a.abstraction.now.tree.now) (tree_of a.abstraction.now.body.now) a.abstraction.now.span a.wanted.now c.as_slice-binders.result.now c.in-Err.field-0
+    abstraction_ill (whole_text a.reader.now) a.reader.now.sig.now a.names.now (typing_by a.reader.now a.scope.now) (tree_of a.abstraction.now.tree.now) (tree_of a.abstraction.now.body.now) a.abstraction.now.binder a.wanted.now c.as_slice-binders.result.now c.in-Err.field-0
     c.requires.base c.in-Err.ensures c.as_slice-binders.ensures c.if-binders-eq0.true
 
 pub read_abstraction-returns-in-Ok-clause-refused : goal.read_abstraction-returns-in-Ok-clause-refused
 read_abstraction-returns-in-Ok-clause-refused t c =
     let a = c.args in
-    abstraction_redex (whole_text a.reader.now) a.reader.now.sig.now a.names.now (typing_by a.reader.now a.scope.now) (tree_of a.abstraction.now.tree.now) (tree_of a.abstraction.now.body.now) (tree_of c.in-Ok.field-0.now) a.abstraction.now.span (type_of a.wanted.now) c.requires.base c.in-Ok.ensures
+    abstraction_redex (whole_text a.reader.now) a.reader.now.sig.now a.names.now (typing_by a.reader.now a.scope.now) (tree_of a.abstraction.now.tree.now) (tree_of a.abstraction.now.body.now) (tree_of c.in-Ok.field-0.now) a.abstraction.now.binder (type_of a.wanted.now) c.requires.base c.in-Ok.ensures
 
 pub read_abstraction-left_type-requires : goal.read_abstraction-left_type-requires
 read_abstraction-left_type-requires t c = some_binder c.as_slice-binders.result.now c.args.wanted.now.binders c.as_slice-binders.ensures c.if-binders-eq0.false
@@ -65,17 +65,14 @@ read_abstraction-read_term-requires t c =
     let left = c.in_ok-left-in-Err.left in
     let fb = first_binder c.as_slice-binders.result.now a.wanted.now left c.as_slice-binders.ensures c.if-binders-eq0.false c.in_ok-left-in-Err.ensures in
     let typing = ap (λ ctx. with_context ctx Γ) fb.2 in
-    let names = c.in_ok-push-in-Err.ensures.ok ∙ ap (λ n. n ∷ a.names.now) c.binder.ensures in (
+    let names = c.in_ok-push-in-Err.ensures.ok ∙ ap (λ n. Some n ∷ a.names.now) c.text-name.ensures in (
       omega (arith, c.decreases, base_size (tree_of a.abstraction.now.tree.now), ap tree_size c.requires.base),
       (
-        c.requires.cut,
+        c.requires.closed,
         (
-          c.requires.closed,
-          (
-            known_under a.reader.now.sig.now Γ Δ a.names.now c.push.new.self (binder_name (whole_text a.reader.now) a.abstraction.now.span) fb.0 typing names c.requires.known
-                (wanted_binder a.reader.now.sig.now Γ (type_of a.wanted.now) fb.0 (type_of left) fb.1 c.requires.wanted),
-            wanted_under a.reader.now.sig.now Γ Δ (type_of a.wanted.now) fb.0 (type_of left) typing fb.1 c.requires.wanted,
-          ),
+          known_under a.reader.now.sig.now Γ Δ a.names.now c.push.new.self (binder_name (whole_text a.reader.now) a.abstraction.now.binder) fb.0 typing names c.requires.known
+              (wanted_binder a.reader.now.sig.now Γ (type_of a.wanted.now) fb.0 (type_of left) fb.1 c.requires.wanted),
+          wanted_under a.reader.now.sig.now Γ Δ (type_of a.wanted.now) fb.0 (type_of left) typing fb.1 c.requires.wanted,
         ),
       ),
     )
@@ -89,9 +86,9 @@ read_abstraction-returns-in-Err-read_term-clause-refused t c =
     let left = c.in_ok-left-in-Err.left in
     let fb = first_binder c.as_slice-binders.result.now a.wanted.now left c.as_slice-binders.ensures c.if-binders-eq0.false c.in_ok-left-in-Err.ensures in
     let typing = ap (λ ctx. with_context ctx Γ) fb.2 in
-    let known = c.in_ok-push-in-Err.ensures.ok ∙ ap (λ n. n ∷ a.names.now) c.binder.ensures in
+    let known = c.in_ok-push-in-Err.ensures.ok ∙ ap (λ n. Some n ∷ a.names.now) c.text-name.ensures in
     IsRefusal-map (RefusesTerm text a.reader.now.sig.now c.push.new.self Δ (tree_of a.abstraction.now.body.now) (type_of left)) (RefusesTerm text a.reader.now.sig.now a.names.now Γ (tree_of a.abstraction.now.tree.now) (type_of a.wanted.now))
-    (λ fault p. abstraction_refused text a.reader.now.sig.now a.names.now c.push.new.self Γ Δ (tree_of a.abstraction.now.tree.now) (tree_of a.abstraction.now.body.now) a.abstraction.now.span (type_of a.wanted.now) fb.0 (type_of left) c.in-Err.field-0 c.requires.base c.in-Err.ensures known typing fb.1 fault p)
+    (λ fault p. abstraction_refused text a.reader.now.sig.now a.names.now c.push.new.self Γ Δ (tree_of a.abstraction.now.tree.now) (tree_of a.abstraction.now.body.now) a.abstraction.now.binder (type_of a.wanted.now) fb.0 (type_of left) c.in-Err.field-0 c.requires.base c.in-Err.ensures known typing fb.1 fault p)
     c.in-Err-read_term.fault c.in-Err-read_term.ensures.refused
 
 pub read_abstraction-returns-clause-read : goal.read_abstraction-returns-clause-read
@@ -103,8 +100,8 @@ read_abstraction-returns-clause-read t c =
     let left = c.in_ok-left-in-Err.left in
     let fb = first_binder c.as_slice-binders.result.now a.wanted.now left c.as_slice-binders.ensures c.if-binders-eq0.false c.in_ok-left-in-Err.ensures in
     let typing = ap (λ ctx. with_context ctx Γ) fb.2 in
-    let known = c.in_ok-push-in-Err.ensures.ok ∙ ap (λ n. n ∷ a.names.now) c.binder.ensures in
-    abstraction_read text a.reader.now.sig.now a.names.now c.push.new.self Γ Δ (tree_of a.abstraction.now.tree.now) (tree_of a.abstraction.now.body.now) a.abstraction.now.span (type_of a.wanted.now) fb.0 (type_of left) (term_of c.in-Ok-read_term.term) c.in_ok-new-in-Ok-read_term.field-0 c.in-Err.field-0
+    let known = c.in_ok-push-in-Err.ensures.ok ∙ ap (λ n. Some n ∷ a.names.now) c.text-name.ensures in
+    abstraction_read text a.reader.now.sig.now a.names.now c.push.new.self Γ Δ (tree_of a.abstraction.now.tree.now) (tree_of a.abstraction.now.body.now) a.abstraction.now.binder (type_of a.wanted.now) fb.0 (type_of left) (term_of c.in-Ok-read_term.term) c.in_ok-new-in-Ok-read_term.field-0 c.in-Err.field-0
     c.requires.base c.in-Err.ensures known typing fb.1 c.in_ok-new-in-Ok-read_term.ensures c.in-Ok-read_term.ensures.read
 
 pub read_application-returns-in_default-clause-refused : goal.read_application-returns-in_default-clause-refused
@@ -149,18 +146,15 @@ read_application-read_arguments-requires t c =
     let shaped = c.requires.known.founded.shaped in (
       omega (arith, c.decreases),
       (
-        c.requires.cut,
+        c.requires.closed,
         (
-          c.requires.closed,
+          c.requires.known,
           (
-            c.requires.known,
-            (
-              record {
-                declared = binders_shaped Γ h found known (kinds_in a.reader.now.sig.now) shaped;
-                seen = ShapedContext-pis domains (family found.family args) (ShapedTyping-head (kinds_in a.reader.now.sig.now) Γ shaped h (pis domains (family found.family args)) (seen Γ h found known));
-              },
-              (c.in_ok-shapes.ensures, omega (arith, c.in_default-argument.ensures, c.len.ensures)),
-            ),
+            record {
+              declared = binders_shaped Γ h found known (kinds_in a.reader.now.sig.now) shaped;
+              seen = ShapedContext-pis domains (family found.family args) (ShapedTyping-head (kinds_in a.reader.now.sig.now) Γ shaped h (pis domains (family found.family args)) (seen Γ h found known));
+            },
+            (c.in_ok-shapes.ensures, omega (arith, c.in_default-argument.ensures, c.len.ensures)),
           ),
         ),
       ),
@@ -331,14 +325,11 @@ read_arguments-read_term-requires t c =
     let result = subst (λ xs. SubstitutedType (putting (spine_of xs) a.head_type.now.raise 0) (type_of ty) wanted) (c.as_slice.ensures.value ∙ sym (take_all c.loop-i.i terms (omega (arith, i.count)))) c.in_ok-ty-in-Ok.ensures.result in (
       omega (arith, c.decreases, argument_size (tree_of a.tree.now) c.loop-i.i (tree_of c.in-Ok.found.now) c.in-Ok.ensures),
       (
-        c.requires.cut,
+        c.requires.closed,
         (
-          c.requires.closed,
-          (
-            subst (KnownAt a.reader.now.sig.now Γ) (sym i.names) c.requires.known,
-            binder_expected (kind_shapes_in a.reader.now.sig.now) Γ a.head_type.now.raise terms types ss c.loop-i.i ty wanted c.loop-i-test.true c.index-types-i.is shapes
-                (subst (ShapedContext (kind_shapes_in a.reader.now.sig.now) (binders_scope Γ a.head_type.now.raise)) (sym c.as_slice-types.ensures) c.requires.domains.declared) typed result,
-          ),
+          subst (KnownAt a.reader.now.sig.now Γ) (sym i.names) c.requires.known,
+          binder_expected (kind_shapes_in a.reader.now.sig.now) Γ a.head_type.now.raise terms types ss c.loop-i.i ty wanted c.loop-i-test.true c.index-types-i.is shapes
+              (subst (ShapedContext (kind_shapes_in a.reader.now.sig.now) (binders_scope Γ a.head_type.now.raise)) (sym c.as_slice-types.ensures) c.requires.domains.declared) typed result,
         ),
       ),
     )

@@ -67,7 +67,6 @@ read_term-requires c =
     let shapes = shapes_of_read ss types a.shapes.now a.binders.now c.as_slice-shapes.ensures c.as_slice-types.ensures c.requires.shapes in
     let typed = typed_before (whole_text a.reader.now) a.reader.now.sig.now a.names.now Γ (trees_of a.items.now) 0 c.loop-i.i types a.binders.now terms c.requires.known.founded c.as_slice-types.ensures c.requires.domains.seen i.count i.read in
     let result = subst (λ xs. SubstitutedType (putting (spine_of xs) 0 0) (type_of ty) wanted) (c.as_slice.ensures.value ∙ sym (take_all c.loop-i.i terms (omega (arith, i.count)))) c.in_ok-ty.ensures.result in record {
-      cut = c.requires.cut;
       closed = c.requires.closed;
       known = subst (KnownAt a.reader.now.sig.now Γ) (sym i.names) c.requires.known;
       wanted = binder_expected (kind_shapes_in a.reader.now.sig.now) Γ 0 terms types ss c.loop-i.i ty wanted c.loop-i-test.true c.index-types-i.is shapes

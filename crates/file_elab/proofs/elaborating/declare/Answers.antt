@@ -1,7 +1,6 @@
 use Rattle.std.proofs.lemmas.Result.{IfOk-weaker}
 use Rattle.file_trees.specs.declared.decl_tree.DeclTree.TheVariants as declarations
 use Rattle.rule_sets.specs.Refusals.{IsOver}
-use Rattle.elab_terms.specs.FileTexts.{text_in}
 use Rattle.file_elab.specs.Theorems.{AreFormed}
 use Rattle.file_elab.specs.ProgramParts.{DeclaresSymbol}
 use Rattle.file_elab.proofs.Growing.{symbol_keeps_formed, symbol_keeps_over}
@@ -9,7 +8,7 @@ use Rattle.file_elab.proofs.elaborating.declare.Goals as goal
 
 pub returns-in-Family-clause-formed : goal.returns-in-Family-clause-formed
 returns-in-Family-clause-formed c =
-    let text = text_in c.args.source.now in
+    let text = c.args.source.now in
     let old = c.args.program.now in
     let new = c.declare_family.new.sig in
     let declaration = declarations.Family c.in-Family.name c.in-Family.tree in
@@ -18,7 +17,7 @@ returns-in-Family-clause-formed c =
 
 pub returns-in-Family-clause-over : goal.returns-in-Family-clause-over
 returns-in-Family-clause-over c =
-    let text = text_in c.args.source.now in
+    let text = c.args.source.now in
     let old = c.args.program.now in
     let new = c.declare_family.new.sig in
     let declaration = declarations.Family c.in-Family.name c.in-Family.tree in
@@ -27,7 +26,7 @@ returns-in-Family-clause-over c =
 
 pub returns-in-Const-clause-formed : goal.returns-in-Const-clause-formed
 returns-in-Const-clause-formed c =
-    let text = text_in c.args.source.now in
+    let text = c.args.source.now in
     let old = c.args.program.now in
     let new = c.declare_constant.new.sig in
     let declaration = declarations.Const c.in-Const.name c.in-Const.tree in
@@ -36,7 +35,7 @@ returns-in-Const-clause-formed c =
 
 pub returns-in-Const-clause-over : goal.returns-in-Const-clause-over
 returns-in-Const-clause-over c =
-    let text = text_in c.args.source.now in
+    let text = c.args.source.now in
     let old = c.args.program.now in
     let new = c.declare_constant.new.sig in
     let declaration = declarations.Const c.in-Const.name c.in-Const.tree in

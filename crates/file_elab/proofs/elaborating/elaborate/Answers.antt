@@ -16,9 +16,9 @@ names_hold bytes items declarations (Err fault) same parsed is = tt
 
 pub returns-clause-names : goal.returns-clause-names
 returns-clause-names c =
-    names_hold c.args.bytes.now c.as_slice-2.result.now c.args.tree.now.decls c.declared.result c.as_slice-2.ensures c.requires c.declared.ensures.program
+    names_hold c.args.bytes.now c.as_slice.result.now c.args.tree.now.decls c.declared.result c.as_slice.ensures c.requires c.declared.ensures.program
 
 pub returns-clause-program : goal.returns-clause-program
 returns-clause-program c =
     let P : List DeclTree → Type 0 = λ declarations. IfOk c.declared.result (λ program. IsProgram c.args.bytes.now declarations (program_of program)) in
-    subst P c.as_slice-2.ensures c.declared.ensures.program
+    subst P c.as_slice.ensures c.declared.ensures.program

@@ -1,11 +1,10 @@
 use Rattle.std.proofs.Common.{inr, sym, ap, ◌∙◌}
-use Rattle.elab_terms.specs.FileTexts.{text_in}
 use Rattle.file_elab.specs.Rules.{number_value, major_value}
 use Rattle.file_elab.proofs.rule_parts.read_major.Goals as goal
 
 pub returns-else-may_be_large : goal.returns-else-may_be_large
 returns-else-may_be_large c =
-    let text = text_in c.args.source.now in
+    let text = c.args.source.now in
     let value = major_value text c.args.major in
     inr (
       c.no_major.ensures c.args.sig.now c.args.subject,

@@ -1,6 +1,6 @@
+use Rattle.file_print.specs.Texts.{type_text}
 use Rattle.printed_tokens.specs.Pieces.{tokens_from, type_pieces}
 use Rattle.printed_tokens.proofs.Spelling.{are_named, tokens_printed}
-use Rattle.printed_trees.specs.Laws.{printed}
 use Rattle.printed_trees.proofs.Parsing.{tree_printed}
 use Rattle.printed_types.proofs.Nesting.{depth_bounded}
 use Rattle.printed_types.proofs.PrintableTypes.{closed_mentions, closed_printable}
@@ -19,5 +19,5 @@ returns c sig a formed named is few shallow =
       tree = tree.0;
       parsed = tree.1;
       shallow = nested;
-      read = whole_read (printed sig a) sig formed (are_named sig named) a tree.0 (depth_bounded sig a few nested) few is (closed_mentions sig a is) tree.2;
+      read = whole_read (type_text sig 0 a) sig formed (are_named sig named) a tree.0 (depth_bounded sig a few nested) few is (closed_mentions sig a is) tree.2;
     }
