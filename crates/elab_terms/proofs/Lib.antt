@@ -12,7 +12,6 @@ pub mod Applying
 pub mod Families
 pub mod Openings
 pub mod Lasts
-pub mod KindOpenings
 pub mod ClosedScopes
 pub mod GrowingNames
 pub mod BinderLevels

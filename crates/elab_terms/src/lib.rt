@@ -10,6 +10,7 @@ mod binding;
 mod bound_names;
 pub mod closed;
 pub mod elab_fault;
+mod ending;
 pub mod file_text;
 mod head;
 pub mod laws;

@@ -21,4 +21,4 @@ decreases-read_last l = last_measure l.last.now
 
 abbrev pub invariant-read_binders-loop-i : goal.invariant-read_binders-loop-i
 invariant-read_binders-loop-i l =
-    Opens (whole_text l.reader) l.reader.sig.now l.fn.names l.names (typing_by l.reader l.scope) (types_of l.fn.prefix.items) (types_of l.types.items) (bindings_of l.items) (drop l.i (bindings_of l.items))
+    Opens l.ending (whole_text l.reader) l.reader.sig.now l.fn.names l.names (typing_by l.reader l.scope) (types_of l.fn.prefix.items) (types_of l.types.items) (bindings_of l.items) (drop l.i (bindings_of l.items))
