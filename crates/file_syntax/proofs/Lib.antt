@@ -4,4 +4,5 @@ pub mod Endings
 pub mod TypeEndings
 pub mod FileEndings
 pub mod Completions
+pub mod Openings
 pub mod Outcomes

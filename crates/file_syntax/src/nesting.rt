@@ -1,6 +1,6 @@
 //! How deep a token is nested.
 
-ghost use Rattle.std.specs.Prelude.{◌≡◌, ◌<◌, ◌≤◌, ◌+◌, [], ◌∷◌, IfOk, sum};
+ghost use Rattle.std.specs.Prelude.{◌≡◌, ◌<◌, ◌≤◌, ◌+◌, [], ◌∷◌, OnOk, OnErr, sum};
 ghost use Rattle.file_syntax.specs.Nesting.{open_after, one_deeper, one_closed};
 
 use crate::terminal::Terminal;
@@ -46,23 +46,23 @@ impl Nesting {
     /// A parenthesis or a brace opens.
     fn enter(&mut self) -> Result<(), AllocError>
         requires { sum self.old < 1000 }
-        ensures { IfOk result (λ _. self.new ≡ 1 ∷ self.old) }
+        ensures ok { OnOk result (self.new ≡ 1 ∷ self.old) }
+        ensures err { OnErr result (self.new ≡ self.old) }
     {
         self.counts.push(1)?;
         self.depth += 1;
         Ok(())
     }
 
-    /// An abstraction begins.
-    fn deepen(&mut self) -> Result<(), AllocError>
+    /// An abstraction begins. It takes no memory.
+    fn deepen(&mut self)
         requires { sum self.old < 1000 }
-        ensures { IfOk result (λ _. self.new ≡ one_deeper self.old) }
+        ensures { self.new ≡ one_deeper self.old }
     {
-        if let Some(count) = self.counts.pop() {
-            self.counts.push(count + 1)?;
+        if let Some(count) = self.counts.last_mut() {
+            *count += 1;
             self.depth += 1;
         }
-        Ok(())
     }
 
     /// A parenthesis or a brace closes.
@@ -74,14 +74,18 @@ impl Nesting {
         }
     }
 
-    /// What is open after the terminal.
+    /// What is open after the terminal. It is as it was where memory is refused.
     pub(crate) fn pass(&mut self, terminal: Terminal) -> Result<(), AllocError>
         requires { sum self.old < 1000 }
-        ensures { IfOk result (λ _. self.new ≡ open_after terminal self.old) }
+        ensures ok { OnOk result (self.new ≡ open_after terminal self.old) }
+        ensures err { OnErr result (self.new ≡ self.old) }
     {
         match terminal {
             Terminal::LParen(_) | Terminal::LBrace(_) => self.enter(),
-            Terminal::LBracket(_) => self.deepen(),
+            Terminal::LBracket(_) => {
+                self.deepen();
+                Ok(())
+            }
             Terminal::RParen(_) | Terminal::RBrace(_) => {
                 self.leave();
                 Ok(())
