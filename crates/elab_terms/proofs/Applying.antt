@@ -59,13 +59,13 @@ slice_get-rename_context (t ∷ types) zero ty ξ within is = ap (λ x. Some (re
 slice_get-rename_context (t ∷ types) (suc i) ty ξ within is = slice_get-rename_context types i ty (lifted ξ) (omega arith) is
 
 -- the arguments before a place are typed at the binders before it
-pub typed_before : (text : Text) (sig : LfSignature) (binders : Bound) (Γ : Typing) (arguments : List Tree) (raise i : ℕ) (types : List Ty) (domains : Context) (terms : List Term) → Founded (kinds_in sig) Γ →
+pub typed_before : {text : Text} {sig : LfSignature} {binders : Bound} {Γ : Typing} (arguments : List Tree) (raise i : ℕ) (types : List Ty) (domains : Context) (terms : List Term) → Founded (kinds_in sig) Γ →
     types_of types ≡ domains → ShapedContext (kind_shapes_in sig) (shapes_of Γ) (rename_context (next_by raise) domains) → length terms ≡ i →
     ReadsArguments text sig binders Γ stays (take i arguments) (take i (seen_types raise types)) (spine_of terms) → TypedUpTo Γ (next_by raise) terms types i
-typed_before text sig binders Γ arguments raise i types domains terms founded are shaped count read =
+typed_before {sig = sig} {Γ = Γ} arguments raise i types domains terms founded are shaped count read =
     let seen : ShapedContext (kind_shapes_in sig) (shapes_of Γ) (seen_types raise types) = subst (λ ds. ShapedContext (kind_shapes_in sig) (shapes_of Γ) (rename_context (next_by raise) ds)) (sym are) shaped in
     subst₂ (λ xs ds. TypedSpine Γ stays (spine_of xs) ds) (sym (take_all i terms (omega arith))) (seen_take raise types i)
-    (arguments_typed text sig binders Γ (take i arguments) (take i (seen_types raise types)) (spine_of terms) founded (shaped_take (kind_shapes_in sig) (shapes_of Γ) (seen_types raise types) i seen) read)
+    (arguments_typed founded (shaped_take (kind_shapes_in sig) (shapes_of Γ) (seen_types raise types) i seen) read)
 
 seen_result : (raise i : ℕ) (terms : List Term) (a c : LfType) → length terms ≡ i → SubstitutedType (push_all (spine_of terms) (λ h. stays (next_by raise h))) a c →
     SubstitutedType (push_all (spine_of terms) stays) (rename_type (lifted_by i (next_by raise)) a) c
@@ -73,7 +73,7 @@ seen_result raise i terms a c count result =
     subst (λ n. SubstitutedType (push_all (spine_of terms) stays) (rename_type (lifted_by n (next_by raise)) a) c) (args_count-spine_of terms ∙ count)
     (SubstitutedType-renamed_outside (spine_of terms) (next_by raise) a c result)
 
-module _ (text : Text) (sig : LfSignature) (binders : Bound) (Γ : Typing) (arguments : List Tree) (raise i : ℕ) (types : List Ty) (terms : List Term) (tree : Tree) (ty : Ty) (c : LfType)
+module _ {text : Text} {sig : LfSignature} {binders : Bound} {Γ : Typing} (arguments : List Tree) (raise i : ℕ) (types : List Ty) (terms : List Term) {tree : Tree} (ty : Ty) {c : LfType}
     (within : i < length types) (is : ty ≡ get_or types i ty) (there : slice_get arguments i ≡ Some tree) (count : length terms ≡ i)
     (result : SubstitutedType (push_all (spine_of terms) (λ h. stays (next_by raise h))) (type_of ty) c)
     (before : ReadsArguments text sig binders Γ stays (take i arguments) (take i (seen_types raise types)) (spine_of terms)) where
@@ -97,9 +97,9 @@ module _ (text : Text) (sig : LfSignature) (binders : Bound) (Γ : Typing) (argu
       (RefusesArguments-at before tree (drop (suc i) arguments) domain c (drop (suc i) (seen_types raise types)) fault (seen_result raise i terms (type_of ty) c count result) refused)
 
 -- all of them
-pub arguments_read : (text : Text) (sig : LfSignature) (binders : Bound) (Γ : Typing) (arguments : List Tree) (raise i : ℕ) (types : List Ty) (domains : Context) (ts : Spine) → i ≡ length arguments → types_of types ≡ domains →
+pub arguments_read : {text : Text} {sig : LfSignature} {binders : Bound} {Γ : Typing} (arguments : List Tree) (raise i : ℕ) (types : List Ty) (domains : Context) {ts : Spine} → i ≡ length arguments → types_of types ≡ domains →
     ReadsArguments text sig binders Γ stays (take i arguments) (take i (seen_types raise types)) ts → ReadsArguments text sig binders Γ stays arguments (take (length arguments) (rename_context (next_by raise) domains)) ts
-arguments_read text sig binders Γ arguments raise i types domains ts all are read =
+arguments_read {text = text} {sig = sig} {binders = binders} {Γ = Γ} arguments raise i types domains {ts = ts} all are read =
     subst₂ (λ xs ds. ReadsArguments text sig binders Γ stays xs ds ts) (take_all i arguments (omega arith)) (ap₂ (λ n ds. take n (rename_context (next_by raise) ds)) all are) read
 
 -- what putting arguments into the rest of a head's type asks

@@ -91,37 +91,36 @@ wanted_under sig Γ Δ wanted a b typing is shaped =
     subst (λ θ. ShapedType (kind_shapes_in sig) θ b) (sym (shapes_of-under Γ a) ∙ ap shapes_of (sym typing)) (shaped_result (subst (IsWanted sig Γ) is shaped))
 
 -- An abstraction.
-pub abstraction_ill : (text : Text) (sig : LfSignature) (binders : Bound) (Γ : Typing) (tree body : Tree) (binder : BinderSpan) (wanted : Ty) (types : List Ty) (left : ℕ) → base_of tree ≡ abstraction binder body →
-    0 ≡ length (arguments_of tree []) + left → types_of types ≡ wanted.binders → length types ≡ 0 → RefusesTerm text sig binders Γ tree (type_of wanted) (IllTyped binder.opening)
-abstraction_ill text sig binders Γ tree body binder wanted types left first none are empty =
-    subst (λ a. RefusesTerm text sig binders Γ tree a (IllTyped binder.opening)) (ap (λ bs. pis bs (family wanted.family wanted.args)) (sym (no_types types empty) ∙ are))
-    (refuses_abstraction binders Γ tree binder body wanted.family wanted.args (first, no_arguments (arguments_of tree []) (omega arith)))
-  where
-    no_types : (ts : List Ty) → length ts ≡ 0 → types_of ts ≡ []
-    no_types [] e = refl
-    no_types (t ∷ ts) e = absurd (omega arith)
+module _ {text : Text} {sig : LfSignature} {binders : Bound} {Γ : Typing} {tree body : Tree} {binder : BinderSpan} (first : base_of tree ≡ abstraction binder body) where
+  pub abstraction_ill : (wanted : Ty) (types : List Ty) (left : ℕ) → 0 ≡ length (arguments_of tree []) + left → types_of types ≡ wanted.binders → length types ≡ 0 →
+      RefusesTerm text sig binders Γ tree (type_of wanted) (IllTyped binder.opening)
+  abstraction_ill wanted types left none are empty =
+      subst (λ a. RefusesTerm text sig binders Γ tree a (IllTyped binder.opening)) (ap (λ bs. pis bs (family wanted.family wanted.args)) (sym (no_types types empty) ∙ are))
+      (refuses_abstraction binders Γ tree binder body wanted.family wanted.args (first, no_arguments (arguments_of tree []) (omega arith)))
+    where
+      no_types : (ts : List Ty) → length ts ≡ 0 → types_of ts ≡ []
+      no_types [] e = refl
+      no_types (t ∷ ts) e = absurd (omega arith)
 
-pub abstraction_redex : (text : Text) (sig : LfSignature) (binders : Bound) (Γ : Typing) (tree body argument : Tree) (binder : BinderSpan) (wanted : LfType) → base_of tree ≡ abstraction binder body →
-    slice_get (arguments_of tree []) 0 ≡ Some argument → RefusesTerm text sig binders Γ tree wanted (Redex binder.opening)
-abstraction_redex text sig binders Γ tree body argument binder wanted first there = by (arguments_of tree []) refl there
-  where
-    by : (arguments : List Tree) → arguments_of tree [] ≡ arguments → slice_get arguments 0 ≡ Some argument → RefusesTerm text sig binders Γ tree wanted (Redex binder.opening)
-    by [] are e = absurd cc
-    by (t ∷ ts) are e = refuses_redex binders Γ tree t binder body ts wanted (first, are)
+  pub abstraction_redex : {argument : Tree} {wanted : LfType} → slice_get (arguments_of tree []) 0 ≡ Some argument → RefusesTerm text sig binders Γ tree wanted (Redex binder.opening)
+  abstraction_redex {argument = argument} {wanted = wanted} there = by (arguments_of tree []) refl there
+    where
+      by : (arguments : List Tree) → arguments_of tree [] ≡ arguments → slice_get arguments 0 ≡ Some argument → RefusesTerm text sig binders Γ tree wanted (Redex binder.opening)
+      by [] are e = absurd cc
+      by (t ∷ ts) are e = refuses_redex binders Γ tree t binder body ts wanted (first, are)
 
-pub abstraction_read : (text : Text) (sig : LfSignature) (binders new : Bound) (Γ Δ : Typing) (tree body : Tree) (binder : BinderSpan) (wanted a c : LfType) (t u : LfTerm) (left : ℕ) → base_of tree ≡ abstraction binder body →
-    0 ≡ length (arguments_of tree []) + left → new ≡ binder_name text binder ∷ binders → Δ ≡ with_variable a Γ → wanted ≡ pi a c → u ≡ t → ReadsTerm text sig new Δ body c t →
-    ReadsTerm text sig binders Γ tree wanted (lam u)
-abstraction_read text sig binders new Γ Δ tree body binder wanted a c t u left first none new_is typing is same read =
-    subst₂ (λ w x. ReadsTerm text sig binders Γ tree w (lam x)) (sym is) (sym same)
-    (reads_abstraction binders Γ tree binder body a c t (first, no_arguments (arguments_of tree []) (omega arith)) (subst₂ (λ b θ. ReadsTerm text sig b θ body c t) new_is typing read))
+  -- its body, whose names and types are equal to what the code has there
+  module _ {new : Bound} {Δ : Typing} {wanted a c : LfType} (left : ℕ) (none : 0 ≡ length (arguments_of tree []) + left) (new_is : new ≡ binder_name text binder ∷ binders)
+      (typing : Δ ≡ with_variable a Γ) (is : wanted ≡ pi a c) where
+    pub abstraction_read : {t u : LfTerm} → u ≡ t → ReadsTerm text sig new Δ body c t → ReadsTerm text sig binders Γ tree wanted (lam u)
+    abstraction_read {t = t} same read =
+        subst₂ (λ w x. ReadsTerm text sig binders Γ tree w (lam x)) (sym is) (sym same)
+        (reads_abstraction binders Γ tree binder body a c t (first, no_arguments (arguments_of tree []) (omega arith)) (subst₂ (λ b θ. ReadsTerm text sig b θ body c t) new_is typing read))
 
-pub abstraction_refused : (text : Text) (sig : LfSignature) (binders new : Bound) (Γ Δ : Typing) (tree body : Tree) (binder : BinderSpan) (wanted a c : LfType) (left : ℕ) → base_of tree ≡ abstraction binder body →
-    0 ≡ length (arguments_of tree []) + left → new ≡ binder_name text binder ∷ binders → Δ ≡ with_variable a Γ → wanted ≡ pi a c → (fault : ElabFault) → RefusesTerm text sig new Δ body c fault →
-    RefusesTerm text sig binders Γ tree wanted fault
-abstraction_refused text sig binders new Γ Δ tree body binder wanted a c left first none new_is typing is fault refused =
-    subst (λ w. RefusesTerm text sig binders Γ tree w fault) (sym is)
-    (refuses_body binders Γ tree binder body a c fault (first, no_arguments (arguments_of tree []) (omega arith)) (subst₂ (λ b θ. RefusesTerm text sig b θ body c fault) new_is typing refused))
+    pub abstraction_refused : (fault : ElabFault) → RefusesTerm text sig new Δ body c fault → RefusesTerm text sig binders Γ tree wanted fault
+    abstraction_refused fault refused =
+        subst (λ w. RefusesTerm text sig binders Γ tree w fault) (sym is)
+        (refuses_body binders Γ tree binder body a c fault (first, no_arguments (arguments_of tree []) (omega arith)) (subst₂ (λ b θ. RefusesTerm text sig b θ body c fault) new_is typing refused))
 
 -- A head that a name stands for has a type.
 raised_within : (found : Option ℕ) (n count : ℕ) → option_map suc found ≡ Some n → ((m : ℕ) → found ≡ Some m → m < count) → n < suc count
@@ -227,10 +226,9 @@ lifted_by-drop (suc n) [] ξ within = absurd (omega arith)
 lifted_by-drop (suc n) (a ∷ ctx) ξ within = lifted_by-drop n ctx (lifted ξ) (omega arith)
 
 -- what arguments that are read are typed at
-pub arguments_typed : (text : Text) (sig : LfSignature) (binders : Bound) (Γ : Typing) (arguments : List Tree) (domains : Context) (ts : Spine) → Founded (kinds_in sig) Γ →
+pub arguments_typed : {text : Text} {sig : LfSignature} {binders : Bound} {Γ : Typing} {arguments : List Tree} {domains : Context} {ts : Spine} → Founded (kinds_in sig) Γ →
     ShapedContext (kind_shapes_in sig) (shapes_of Γ) domains → ReadsArguments text sig binders Γ stays arguments domains ts → TypedSpine Γ stays ts domains
-arguments_typed text sig binders Γ arguments domains ts founded shaped read =
-    TypedSpine-ReadsArguments read (kinds_in sig) founded (shapes_of Γ) 0 (Goes-stays 0 (shapes_of Γ)) shaped
+arguments_typed {sig = sig} {Γ = Γ} founded shaped read = TypedSpine-ReadsArguments read (kinds_in sig) founded (shapes_of Γ) 0 (Goes-stays 0 (shapes_of Γ)) shaped
 
 -- the type of a head with its first arguments, as it is declared and as it is seen
 pub result_seen : (found : HeadType) (ts : Spine) (n : ℕ) (c : LfType) → n ≤ length found.binders.now → args_count ts ≡ n →
@@ -247,24 +245,24 @@ result_seen found ts n c within count result =
     (SubstitutedType-renamed_outside ts ξ (pis (drop n bs) end) c result)
 
 -- An application, by the type of its head.
-module _ (text : Text) (sig : LfSignature) (binders : Bound) (Γ : Typing) (tree : Tree) (span : Span) (h : LfHead) (domains : Context) (f : ℕ) (args ts : Spine)
-    (first : base_of tree ≡ leaf span) (resolved : names.named_head sig binders (text_at text span) ≡ Some h) (known : Γ h ≡ Some (pis domains (family f args))) where
-  abbrev arguments : List Tree
-  arguments = arguments_of tree []
+split_type : {found : Option LfType} (n : ℕ) (domains : Context) (end : LfType) → found ≡ Some (pis domains end) → found ≡ Some (pis (take n domains ++ drop n domains) end)
+split_type n domains end known = known ∙ ap (λ ds. Some (pis ds end)) (sym (take-append-drop n domains))
 
-  abbrev count : ℕ
-  count = length arguments
-
-  parts : Γ h ≡ Some (pis (take count domains ++ drop count domains) (family f args))
-  parts = known ∙ ap (λ ds. Some (pis ds (family f args))) (sym (take-append-drop count domains))
-
-  pub application_read : (made wanted : LfType) (t : LfTerm) → ReadsArguments text sig binders Γ stays arguments (take count domains) ts → SubstitutedType (push_all ts stays) (pis (drop count domains) (family f args)) made →
-      made ≡ wanted → t ≡ expanded h ts (shape_of made) → ReadsTerm text sig binders Γ tree wanted t
-  application_read made wanted t read result same is =
+module _ {text : Text} {sig : LfSignature} {binders : Bound} {Γ : Typing} {tree : Tree} {span : Span} {h : LfHead} (domains : Context) (f : ℕ) (args : Spine)
+    (first : base_of tree ≡ leaf span) (resolved : names.named_head sig binders (text_at text span) ≡ Some h) (known : Γ h ≡ Some (pis domains (family f args)))
+    {ts : Spine} {made wanted : LfType} (read : ReadsArguments text sig binders Γ stays (arguments_of tree []) (take (length (arguments_of tree [])) domains) ts)
+    (result : SubstitutedType (push_all ts stays) (pis (drop (length (arguments_of tree [])) domains) (family f args)) made) where
+  pub application_read : {t : LfTerm} → made ≡ wanted → t ≡ expanded h ts (shape_of made) → ReadsTerm text sig binders Γ tree wanted t
+  application_read same is =
+      let arguments = arguments_of tree [] in
+      let count = length arguments in
+      let end = family f args in
       subst (ReadsTerm text sig binders Γ tree wanted) (ap (λ a. expanded h ts (shape_of a)) (sym same) ∙ sym is)
-      (reads_application binders Γ tree span arguments h (take count domains) (drop count domains) f args ts wanted (first, refl) resolved parts read (subst (SubstitutedType (push_all ts stays) (pis (drop count domains) (family f args))) same result))
+      (reads_application binders Γ tree span arguments h (take count domains) (drop count domains) f args ts wanted (first, refl) resolved (split_type count domains end known) read
+      (subst (SubstitutedType (push_all ts stays) (pis (drop count domains) end)) same result))
 
-  pub application_differs : (made wanted : LfType) → ReadsArguments text sig binders Γ stays arguments (take count domains) ts → SubstitutedType (push_all ts stays) (pis (drop count domains) (family f args)) made →
-      (made ≡ wanted → ⊥) → RefusesTerm text sig binders Γ tree wanted (IllTyped (tree_place tree))
-  application_differs made wanted read result differ =
-      refuses_result binders Γ tree span arguments h (take count domains) (drop count domains) f args ts made wanted (first, refl) resolved parts read result differ
+  pub application_differs : (made ≡ wanted → ⊥) → RefusesTerm text sig binders Γ tree wanted (IllTyped (tree_place tree))
+  application_differs differ =
+      let arguments = arguments_of tree [] in
+      let count = length arguments in
+      refuses_result binders Γ tree span arguments h (take count domains) (drop count domains) f args ts made wanted (first, refl) resolved (split_type count domains (family f args) known) read result differ

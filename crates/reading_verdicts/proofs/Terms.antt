@@ -64,7 +64,7 @@ module _ (text : Text) (sig : LfSignature) where
         with_arguments : TermJudged binders Γ tree wanted
         with_arguments =
             let end = pis r.missing (family f args) in
-            let typed = arguments_typed text sig binders Γ arguments r.first ts place.known.founded (ShapedContext-pis r.first end head_shaped) r.read in
+            let typed = arguments_typed place.known.founded (ShapedContext-pis r.first end head_shaped) r.read in
             let found = total_type (shape_size (arrows (shapes_of_types r.first) base)) (ShapedType-under_pis r.first end head_shaped) (shapes_of Γ) (push_all ts stays) (Goes-TypedSpine typed) in
             compared found.0 found.1 (same_types found.0 wanted)
 

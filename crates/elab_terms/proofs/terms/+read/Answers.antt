@@ -46,13 +46,10 @@ read_term-unreachable-requires t c =
 pub read_abstraction-returns-then-binders-eq0-clause-refused : goal.read_abstraction-returns-then-binders-eq0-clause-refused
 read_abstraction-returns-then-binders-eq0-clause-refused t c =
     let a = c.args in
-    abstraction_ill (whole_text a.reader.now) a.reader.now.sig.now a.names.now (typing_by a.reader.now a.scope.now) (tree_of a.abstraction.now.tree.now) (tree_of a.abstraction.now.body.now) a.abstraction.now.binder a.wanted.now c.as_slice-binders.result.now c.in-Err.field-0
-    c.requires.base c.in-Err.ensures c.as_slice-binders.ensures c.if-binders-eq0.true
+    abstraction_ill c.requires.base a.wanted.now c.as_slice-binders.result.now c.in-Err.field-0 c.in-Err.ensures c.as_slice-binders.ensures c.if-binders-eq0.true
 
 pub read_abstraction-returns-in-Ok-clause-refused : goal.read_abstraction-returns-in-Ok-clause-refused
-read_abstraction-returns-in-Ok-clause-refused t c =
-    let a = c.args in
-    abstraction_redex (whole_text a.reader.now) a.reader.now.sig.now a.names.now (typing_by a.reader.now a.scope.now) (tree_of a.abstraction.now.tree.now) (tree_of a.abstraction.now.body.now) (tree_of c.in-Ok.field-0.now) a.abstraction.now.binder (type_of a.wanted.now) c.requires.base c.in-Ok.ensures
+read_abstraction-returns-in-Ok-clause-refused t c = abstraction_redex c.requires.base c.in-Ok.ensures
 
 pub read_abstraction-left_type-requires : goal.read_abstraction-left_type-requires
 read_abstraction-left_type-requires t c = some_binder c.as_slice-binders.result.now c.args.wanted.now.binders c.as_slice-binders.ensures c.if-binders-eq0.false
@@ -88,7 +85,7 @@ read_abstraction-returns-in-Err-read_term-clause-refused t c =
     let typing = ap (λ ctx. with_context ctx Γ) fb.2 in
     let known = c.in_ok-push-in-Err.ensures.ok ∙ ap (λ n. Some n ∷ a.names.now) c.text-name.ensures in
     IsRefusal-map (RefusesTerm text a.reader.now.sig.now c.push.new.self Δ (tree_of a.abstraction.now.body.now) (type_of left)) (RefusesTerm text a.reader.now.sig.now a.names.now Γ (tree_of a.abstraction.now.tree.now) (type_of a.wanted.now))
-    (λ fault p. abstraction_refused text a.reader.now.sig.now a.names.now c.push.new.self Γ Δ (tree_of a.abstraction.now.tree.now) (tree_of a.abstraction.now.body.now) a.abstraction.now.binder (type_of a.wanted.now) fb.0 (type_of left) c.in-Err.field-0 c.requires.base c.in-Err.ensures known typing fb.1 fault p)
+    (λ fault p. abstraction_refused c.requires.base c.in-Err.field-0 c.in-Err.ensures known typing fb.1 fault p)
     c.in-Err-read_term.fault c.in-Err-read_term.ensures.refused
 
 pub read_abstraction-returns-clause-read : goal.read_abstraction-returns-clause-read
@@ -101,8 +98,7 @@ read_abstraction-returns-clause-read t c =
     let fb = first_binder c.as_slice-binders.result.now a.wanted.now left c.as_slice-binders.ensures c.if-binders-eq0.false c.in_ok-left-in-Err.ensures in
     let typing = ap (λ ctx. with_context ctx Γ) fb.2 in
     let known = c.in_ok-push-in-Err.ensures.ok ∙ ap (λ n. Some n ∷ a.names.now) c.text-name.ensures in
-    abstraction_read text a.reader.now.sig.now a.names.now c.push.new.self Γ Δ (tree_of a.abstraction.now.tree.now) (tree_of a.abstraction.now.body.now) a.abstraction.now.binder (type_of a.wanted.now) fb.0 (type_of left) (term_of c.in-Ok-read_term.term) c.in_ok-new-in-Ok-read_term.field-0 c.in-Err.field-0
-    c.requires.base c.in-Err.ensures known typing fb.1 c.in_ok-new-in-Ok-read_term.ensures c.in-Ok-read_term.ensures.read
+    abstraction_read c.requires.base c.in-Err.field-0 c.in-Err.ensures known typing fb.1 c.in_ok-new-in-Ok-read_term.ensures c.in-Ok-read_term.ensures.read
 
 pub read_application-returns-in_default-clause-refused : goal.read_application-returns-in_default-clause-refused
 read_application-returns-in_default-clause-refused t c =
@@ -204,7 +200,7 @@ read_application-type_after-requires-clause-puts t c =
     let known = subst₂ (λ o ms. seen_type o ≡ typing_at a.reader.now.sig.now ms a.scope.now h) c.in-Some-2.is c.requires.closed c.in_ok-found.ensures in
     let shaped = c.requires.known.founded.shaped in
     let whole = ShapedContext-pis domains (family found.family args) (ShapedTyping-head (kinds_in a.reader.now.sig.now) Γ shaped h (pis domains (family found.family args)) (seen Γ h found known)) in
-    let typed = arguments_typed text a.reader.now.sig.now a.names.now Γ arguments (take (length arguments) domains) (spine_of terms.items) c.requires.known.founded
+    let typed = arguments_typed c.requires.known.founded
     (shaped_take (kind_shapes_in a.reader.now.sig.now) (shapes_of Γ) domains (length arguments) whole) c.in-Ok-read_arguments.ensures.read in
     type_after_puts a.reader.now.sig.now Γ h found shaped known slice (length arguments) c.len-count.result c.as_slice.result.now (subst (λ xs. TypedSpine Γ stays (spine_of xs) (take (length arguments) domains)) (sym value) typed)
     (ap length value ∙ c.in-Ok-read_arguments.ensures.count) (omega (arith, c.len-count.ensures, terms.ok.0, c.in-Ok-read_arguments.ensures.count)) (c.as_slice.ensures ∙ c.in_ok-shapes.ensures)
@@ -227,7 +223,7 @@ read_application-returns-then-not-same_ty-clause-refused t c =
     let result = subst (λ n. SubstitutedType (putting (spine_of terms.items) found.raise 0) (left_of found n) made) count
     (subst (λ xs. SubstitutedType (putting (spine_of xs) found.raise 0) (left_of found (length xs)) made) c.as_slice-in-Ok-read_arguments.ensures.value c.in_ok-made-in-Ok-read_arguments.ensures) in
     subst (λ n. RefusesTerm text a.reader.now.sig.now a.names.now Γ (tree_of a.tree.now) (type_of a.wanted.now) (IllTyped n)) (sym c.place-then-not-same_ty.ensures)
-    (application_differs text a.reader.now.sig.now a.names.now Γ (tree_of a.tree.now) a.span h domains found.family args (spine_of terms.items) c.requires.base resolved (seen Γ h found known) made (type_of a.wanted.now)
+    (application_differs domains found.family args c.requires.base resolved (seen Γ h found known)
     c.in-Ok-read_arguments.ensures.read
     (result_seen found (spine_of terms.items) (length arguments) made (omega (arith, c.in_default-argument.ensures, c.len.ensures)) (args_count-spine_of terms.items ∙ count) result)
     (λ e. false≢true (sym c.if-not-same_ty.true ∙ c.same_ty.ensures.1 e)))
@@ -246,7 +242,7 @@ read_application-expand-requires t c =
     let known = subst₂ (λ o ms. seen_type o ≡ typing_at a.reader.now.sig.now ms a.scope.now h) c.in-Some-2.is c.requires.closed c.in_ok-found.ensures in
     let shaped = c.requires.known.founded.shaped in
     let whole = ShapedContext-pis domains (family found.family args) (ShapedTyping-head (kinds_in a.reader.now.sig.now) Γ shaped h (pis domains (family found.family args)) (seen Γ h found known)) in
-    let typed = arguments_typed text a.reader.now.sig.now a.names.now Γ arguments (take (length arguments) domains) (spine_of terms.items) c.requires.known.founded
+    let typed = arguments_typed c.requires.known.founded
     (shaped_take (kind_shapes_in a.reader.now.sig.now) (shapes_of Γ) domains (length arguments) whole) c.in-Ok-read_arguments.ensures.read in
     (shapes_of Γ, arrows (shapes_of_types (take (length arguments) domains)) base, ShapedSpine-TypedSpine typed)
 
@@ -267,8 +263,7 @@ read_application-returns-clause-read t c =
     let count = c.in-Ok-read_arguments.ensures.count in
     let result = subst (λ n. SubstitutedType (putting (spine_of terms.items) found.raise 0) (left_of found n) made) count
     (subst (λ xs. SubstitutedType (putting (spine_of xs) found.raise 0) (left_of found (length xs)) made) c.as_slice-in-Ok-read_arguments.ensures.value c.in_ok-made-in-Ok-read_arguments.ensures) in
-    application_read text a.reader.now.sig.now a.names.now Γ (tree_of a.tree.now) a.span h domains found.family args (spine_of terms.items) c.requires.base resolved (seen Γ h found known) made (type_of a.wanted.now)
-    (term_of c.in_ok-expand-in-Ok-read_arguments.field-0) c.in-Ok-read_arguments.ensures.read
+    application_read domains found.family args c.requires.base resolved (seen Γ h found known) c.in-Ok-read_arguments.ensures.read
     (result_seen found (spine_of terms.items) (length arguments) made (omega (arith, c.in_default-argument.ensures, c.len.ensures)) (args_count-spine_of terms.items ∙ count) result)
     (c.same_ty.ensures.0 c.if-not-same_ty.false) c.in_ok-expand-in-Ok-read_arguments.ensures
 
@@ -286,7 +281,7 @@ pub read_arguments-returns-in-Err-clause-read : goal.read_arguments-returns-in-E
 read_arguments-returns-in-Err-clause-read t c =
     let a = c.args in
     let i = c.loop-i.invariant in
-    arguments_read (whole_text a.reader.now) a.reader.now.sig.now a.names.now (typing_by a.reader.now a.scope.now) (arguments_of (tree_of a.tree.now) []) a.head_type.now.raise c.loop-i.i c.as_slice-types.result.now a.head_type.now.binders.now (spine_of c.loop-i.terms.items)
+    arguments_read (arguments_of (tree_of a.tree.now) []) a.head_type.now.raise c.loop-i.i c.as_slice-types.result.now a.head_type.now.binders.now
     (omega (arith, c.in-Err.ensures, i.within)) c.as_slice-types.ensures i.read
 
 pub read_arguments-slice_bounds-put_type-end : goal.read_arguments-slice_bounds-put_type-end
@@ -305,7 +300,7 @@ read_arguments-put_type-requires t c =
     let ss = c.as_slice-shapes.result.now in
     let ty = c.index-types-i.result in
     let shapes = shapes_of_read ss types a.shapes.now a.head_type.now.binders.now c.as_slice-shapes.ensures c.as_slice-types.ensures c.requires.shapes in
-    let typed = typed_before (whole_text a.reader.now) a.reader.now.sig.now a.names.now Γ (arguments_of (tree_of a.tree.now) []) a.head_type.now.raise c.loop-i.i types a.head_type.now.binders.now terms c.requires.known.founded c.as_slice-types.ensures c.requires.domains.seen i.count i.read in
+    let typed = typed_before (arguments_of (tree_of a.tree.now) []) a.head_type.now.raise c.loop-i.i types a.head_type.now.binders.now terms c.requires.known.founded c.as_slice-types.ensures c.requires.domains.seen i.count i.read in
     subst (λ xs. Puts (spine_of xs) (simple_types_of (take c.loop-i.i ss)) a.head_type.now.raise 0 (TypeShaped (type_of ty))) (take_all c.loop-i.i terms (omega (arith, i.count)) ∙ sym c.as_slice.ensures.value)
     (puts_binder (kind_shapes_in a.reader.now.sig.now) Γ a.head_type.now.raise terms types ss c.loop-i.i ty c.loop-i-test.true c.index-types-i.is shapes
     (subst (ShapedContext (kind_shapes_in a.reader.now.sig.now) (binders_scope Γ a.head_type.now.raise)) (sym c.as_slice-types.ensures) c.requires.domains.declared) typed)
@@ -321,7 +316,7 @@ read_arguments-read_term-requires t c =
     let ty = c.index-types-i.result in
     let wanted = type_of c.in_ok-ty-in-Ok.ty in
     let shapes = shapes_of_read ss types a.shapes.now a.head_type.now.binders.now c.as_slice-shapes.ensures c.as_slice-types.ensures c.requires.shapes in
-    let typed = typed_before (whole_text a.reader.now) a.reader.now.sig.now a.names.now Γ (arguments_of (tree_of a.tree.now) []) a.head_type.now.raise c.loop-i.i types a.head_type.now.binders.now terms c.requires.known.founded c.as_slice-types.ensures c.requires.domains.seen i.count i.read in
+    let typed = typed_before (arguments_of (tree_of a.tree.now) []) a.head_type.now.raise c.loop-i.i types a.head_type.now.binders.now terms c.requires.known.founded c.as_slice-types.ensures c.requires.domains.seen i.count i.read in
     let result = subst (λ xs. SubstitutedType (putting (spine_of xs) a.head_type.now.raise 0) (type_of ty) wanted) (c.as_slice.ensures.value ∙ sym (take_all c.loop-i.i terms (omega (arith, i.count)))) c.in_ok-ty-in-Ok.ensures.result in (
       omega (arith, c.decreases, argument_size (tree_of a.tree.now) c.loop-i.i (tree_of c.in-Ok.found.now) c.in-Ok.ensures),
       (
@@ -348,7 +343,7 @@ read_arguments-returns-in-Err-read_term-clause-refused t c =
     let arguments = arguments_of (tree_of a.tree.now) [] in
     let result = subst (λ xs. SubstitutedType (putting (spine_of xs) a.head_type.now.raise 0) (type_of ty) wanted) c.as_slice.ensures.value c.in_ok-ty-in-Ok.ensures.result in
     IsRefusal-map (RefusesTerm text a.reader.now.sig.now c.loop-i.names Γ tree wanted) (RefusesArguments text a.reader.now.sig.now a.names.now Γ stays arguments (rename_context (next_by a.head_type.now.raise) a.head_type.now.binders.now))
-    (λ fault p. argument_refused text a.reader.now.sig.now a.names.now Γ arguments a.head_type.now.raise c.loop-i.i types terms tree ty wanted c.loop-i-test.true c.index-types-i.is c.in-Ok.ensures i.count result i.read a.head_type.now.binders.now c.as_slice-types.ensures fault
+    (λ fault p. argument_refused arguments a.head_type.now.raise c.loop-i.i types terms ty c.loop-i-test.true c.index-types-i.is c.in-Ok.ensures i.count result i.read a.head_type.now.binders.now c.as_slice-types.ensures fault
     (subst (λ b. RefusesTerm text a.reader.now.sig.now b Γ tree wanted fault) i.names p))
     c.in-Err-read_term.fault c.in-Err-read_term.ensures.refused
 
@@ -369,7 +364,7 @@ read_arguments-loop-i-preserved t c =
     let pushed = c.in_ok-push-in-Ok-read_term.ensures.items in record {
       count = ap length pushed ∙ length-append terms (term ∷ []) ∙ ap (λ n. n + 1) i.count;
       within = omega (arith, slice_get_within arguments c.loop-i.i tree c.in-Ok.ensures);
-      read = argument_read text a.reader.now.sig.now a.names.now Γ arguments a.head_type.now.raise c.loop-i.i types terms tree ty wanted c.loop-i-test.true c.index-types-i.is c.in-Ok.ensures i.count result i.read term c.push.new.self.items pushed
+      read = argument_read arguments a.head_type.now.raise c.loop-i.i types terms ty c.loop-i-test.true c.index-types-i.is c.in-Ok.ensures i.count result i.read term c.push.new.self.items pushed
           (subst (λ b. ReadsTerm text a.reader.now.sig.now b Γ tree wanted (term_of term)) i.names c.in-Ok-read_term.ensures.read);
       names = c.in-Ok-read_term.ensures.names ∙ i.names;
     }
@@ -379,7 +374,7 @@ read_arguments-returns-clause-read t c =
     let a = c.args in
     let i = c.loop-i.invariant in
     let count : length a.head_type.now.binders.now ≡ length c.as_slice-types.result.now = ap length (sym c.as_slice-types.ensures) ∙ length-types_of c.as_slice-types.result.now in
-    arguments_read (whole_text a.reader.now) a.reader.now.sig.now a.names.now (typing_by a.reader.now a.scope.now) (arguments_of (tree_of a.tree.now) []) a.head_type.now.raise c.loop-i.i c.as_slice-types.result.now a.head_type.now.binders.now (spine_of c.loop-i.terms.items)
+    arguments_read (arguments_of (tree_of a.tree.now) []) a.head_type.now.raise c.loop-i.i c.as_slice-types.result.now a.head_type.now.binders.now
     (omega (arith, c.loop-i-test.false, i.within, count, c.requires.few)) c.as_slice-types.ensures i.read
 
 pub read_arguments-returns-clause-count : goal.read_arguments-returns-clause-count

@@ -44,7 +44,7 @@ put_type-requires c =
     let ss = c.as_slice-shapes.result.now in
     let ty = c.index-types-i.result in
     let shapes = shapes_of_read ss types a.shapes.now a.binders.now c.as_slice-shapes.ensures c.as_slice-types.ensures c.requires.shapes in
-    let typed = typed_before (whole_text a.reader.now) a.reader.now.sig.now a.names.now Γ (trees_of a.items.now) 0 c.loop-i.i types a.binders.now terms c.requires.known.founded c.as_slice-types.ensures c.requires.domains.seen i.count i.read in
+    let typed = typed_before (trees_of a.items.now) 0 c.loop-i.i types a.binders.now terms c.requires.known.founded c.as_slice-types.ensures c.requires.domains.seen i.count i.read in
     subst (λ xs. Puts (spine_of xs) (simple_types_of (take c.loop-i.i ss)) 0 0 (TypeShaped (type_of ty))) (take_all c.loop-i.i terms (omega (arith, i.count)) ∙ sym c.as_slice.ensures.value)
     (puts_binder (kind_shapes_in a.reader.now.sig.now) Γ 0 terms types ss c.loop-i.i ty c.loop-i-test.true c.index-types-i.is shapes
     (subst (ShapedContext (kind_shapes_in a.reader.now.sig.now) (binders_scope Γ 0)) (sym c.as_slice-types.ensures) c.requires.domains.declared) typed)
@@ -65,7 +65,7 @@ read_term-requires c =
     let ty = c.index-types-i.result in
     let wanted = type_of c.in_ok-ty.ty in
     let shapes = shapes_of_read ss types a.shapes.now a.binders.now c.as_slice-shapes.ensures c.as_slice-types.ensures c.requires.shapes in
-    let typed = typed_before (whole_text a.reader.now) a.reader.now.sig.now a.names.now Γ (trees_of a.items.now) 0 c.loop-i.i types a.binders.now terms c.requires.known.founded c.as_slice-types.ensures c.requires.domains.seen i.count i.read in
+    let typed = typed_before (trees_of a.items.now) 0 c.loop-i.i types a.binders.now terms c.requires.known.founded c.as_slice-types.ensures c.requires.domains.seen i.count i.read in
     let result = subst (λ xs. SubstitutedType (putting (spine_of xs) 0 0) (type_of ty) wanted) (c.as_slice.ensures.value ∙ sym (take_all c.loop-i.i terms (omega (arith, i.count)))) c.in_ok-ty.ensures.result in record {
       closed = c.requires.closed;
       known = subst (KnownAt a.reader.now.sig.now Γ) (sym i.names) c.requires.known;
@@ -91,7 +91,7 @@ returns-in-Err-clause-refused c =
     let result = subst (λ xs. SubstitutedType (putting (spine_of xs) 0 0) (type_of ty) wanted) c.as_slice.ensures.value c.in_ok-ty.ensures.result in
     IsRefusal-map (RefusesTerm text a.reader.now.sig.now c.loop-i.names Γ tree wanted) (RefusesArguments text a.reader.now.sig.now a.names.now Γ stays arguments a.binders.now)
     (λ fault p. subst (λ ds. RefusesArguments text a.reader.now.sig.now a.names.now Γ stays arguments ds fault) (not_raised a.binders.now)
-    (argument_refused text a.reader.now.sig.now a.names.now Γ arguments 0 c.loop-i.i types terms tree ty wanted c.loop-i-test.true c.index-types-i.is there i.count result i.read a.binders.now c.as_slice-types.ensures fault
+    (argument_refused arguments 0 c.loop-i.i types terms ty c.loop-i-test.true c.index-types-i.is there i.count result i.read a.binders.now c.as_slice-types.ensures fault
     (subst (λ b. RefusesTerm text a.reader.now.sig.now b Γ tree wanted fault) i.names p)))
     c.in-Err.fault c.in-Err.ensures.refused
 
@@ -114,7 +114,7 @@ loop-i-preserved c =
     let result = subst (λ xs. SubstitutedType (putting (spine_of xs) 0 0) (type_of ty) wanted) c.as_slice.ensures.value c.in_ok-ty.ensures.result in
     let pushed = c.in_ok-push-in-Ok.ensures.items in record {
       count = ap length pushed ∙ length-append terms (term ∷ []) ∙ ap (λ n. n + 1) i.count;
-      read = argument_read text a.reader.now.sig.now a.names.now Γ arguments 0 c.loop-i.i types terms tree ty wanted c.loop-i-test.true c.index-types-i.is there i.count result i.read term c.push.new.self.items pushed
+      read = argument_read arguments 0 c.loop-i.i types terms ty c.loop-i-test.true c.index-types-i.is there i.count result i.read term c.push.new.self.items pushed
           (subst (λ b. ReadsTerm text a.reader.now.sig.now b Γ tree wanted (term_of term)) i.names c.in-Ok.ensures.read);
       names = c.in-Ok.ensures.names ∙ i.names;
     }
@@ -129,6 +129,6 @@ returns-clause-read c =
     let arguments = trees_of a.items.now in
     let count : length a.binders.now ≡ length types = ap length (sym c.as_slice-types.ensures) ∙ length-types_of types in
     let all : c.loop-i.i ≡ length arguments = omega (arith, c.loop-i-test.false, c.loop-i.auto.i-end, count, c.requires.count, length-trees_of a.items.now) in
-    let read = arguments_read text a.reader.now.sig.now a.names.now Γ arguments 0 c.loop-i.i types a.binders.now (spine_of c.loop-i.terms.items) all c.as_slice-types.ensures i.read in
+    let read = arguments_read arguments 0 c.loop-i.i types a.binders.now all c.as_slice-types.ensures i.read in
     subst (λ ds. ReadsArguments text a.reader.now.sig.now a.names.now Γ stays arguments ds (spine_of c.loop-i.terms.items))
     (ap (take (length arguments)) (not_raised a.binders.now) ∙ take_all (length arguments) a.binders.now (omega (arith, c.requires.count, length-trees_of a.items.now))) read
