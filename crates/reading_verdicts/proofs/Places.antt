@@ -4,7 +4,7 @@ use Rattle.std.specs.Str.{bytes_eq}
 use Rattle.std.proofs.lemmas.List.Quantifiers.{position-Some}
 use Rattle.basics.specs.Places.{place_of}
 use Rattle.lf_definitions.specs.Syntax.{LfHead, bound, constant, LfType, Context, LfKind}
-use Rattle.lf_definitions.specs.Typing.{Typing, with_variable, with_context, FormedContext, formed_empty, formed_entry, type_at, kinds_of}
+use Rattle.lf_definitions.specs.Typing.{Typing, with_variable, with_context, FormedContext, formed_entry, type_at, kinds_of}
 use Rattle.lf_definitions.specs.Signatures.{LfSignature, family_names, family_kinds, constant_names, constant_types, kinds_in, typing_in, FormedSignature}
 use Rattle.lf_definitions.proofs.Counts.{length-family_names, length-constant_names}
 use Rattle.lf_definitions.proofs.Typing.{ShapedType-Formed}

@@ -1,5 +1,5 @@
 -- Whether two types are equal can be told.
-use Rattle.std.proofs.Common.{◌≡◌, ℕ, inl, inr, refl, ap, ap₂, arith}
+use Rattle.std.proofs.Common.{ℕ, inl, inr, refl, ap, ap₂, arith}
 use Rattle.lf_definitions.specs.Syntax.{LfHead, bound, constant, metavariable, LfTerm, lam, at, Spine, no_args, arg, LfType, pi, family}
 use Rattle.lf_definitions.proofs.Decisions.{SameOrNot}
 

@@ -18,9 +18,8 @@ use Rattle.file_trees.specs.Trees.{Tree, leaf, abstraction, head, apply}
 use Rattle.file_trees.specs.Places.{tree_place}
 use Rattle.elab_terms.specs.Applied.{base_of, arguments_of}
 use Rattle.elab_terms.specs.Names.{Text, text_at, binder_name, Bound, named_head}
-use Rattle.elab_terms.specs.Terms.{ReadsTerm, reads_abstraction, reads_application, ReadsArguments, RefusesTerm, refuses_abstraction, refuses_body, refuses_redex, refuses_name, refuses_extra, refuses_in_argument, refuses_result}
+use Rattle.elab_terms.specs.Terms.{ReadsTerm, reads_abstraction, reads_application, RefusesTerm, refuses_abstraction, refuses_body, refuses_redex, refuses_name, refuses_extra, refuses_in_argument, refuses_result}
 use Rattle.elab_terms.specs.KnownTypes.{IsWanted}
-use Rattle.elab_terms.specs.declared.elab_fault.ElabFault.{ElabFault}
 use Rattle.elab_terms.specs.declared.elab_fault.ElabFault.TheVariants.{Unknown, Redex, IllTyped}
 use Rattle.elab_terms.proofs.Reading.{wanted_binder, wanted_under, arguments_typed}
 use Rattle.reading_verdicts.proofs.SameTypes.{same_types}

@@ -1,5 +1,5 @@
 -- A type is read or refused, and so is a kind.
-use Rattle.std.proofs.Common.{◌≡◌, ℕ, suc, ◌<◌, ◌≤◌, ◌⊎◌, inl, inr, Option, Some, None, List, [], ◌∷◌, ◌++◌, length, take, refl, sym, ap, ◌∙◌, subst, arith}
+use Rattle.std.proofs.Common.{◌≡◌, ℕ, suc, ◌<◌, ◌≤◌, ◌⊎◌, inl, inr, Option, Some, None, List, [], ◌∷◌, length, take, refl, sym, ◌∙◌, subst, arith}
 use Rattle.std.proofs.lemmas.List.{append-nil, take_all}
 use Rattle.basics.specs.Limits.{most_binders}
 use Rattle.lf_definitions.specs.Syntax.{LfType, pi, family, LfKind, Spine}
@@ -17,7 +17,6 @@ use Rattle.elab_terms.specs.Names.{Text, text_at, binder_name, Bound, family_of}
 use Rattle.elab_terms.specs.Terms.{ReadsArguments}
 use Rattle.elab_terms.specs.Types.{classifier_place, IsBinder, pi_binder, arrow_binder, ReadsType, reads_binder, reads_family, RefusesType, refuses_binder, refuses_domain, refuses_rest, refuses_family, refuses_word, refuses_few, refuses_family_argument, refuses_family_extra, ReadsKind, reads_type_word, reads_kind_binder, RefusesKind, refuses_kind_domain, refuses_kind_rest, refuses_kind_family}
 use Rattle.elab_terms.specs.KnownTypes.{IsWanted}
-use Rattle.elab_terms.specs.declared.elab_fault.ElabFault.{ElabFault}
 use Rattle.elab_terms.specs.declared.elab_fault.ElabFault.TheVariants.{Unknown, TooMany, IllTyped}
 use Rattle.elab_terms.proofs.ReadTyped.{Formed-ReadsType}
 use Rattle.elab_terms.proofs.ReadOnce.{same_first, length-ReadsArguments}

@@ -1,5 +1,5 @@
 -- A tree has one verdict.
-use Rattle.std.proofs.Common.{◌≡◌, inl, inr, [], sym, ap}
+use Rattle.std.proofs.Common.{◌≡◌, inl, inr, [], ap}
 use Rattle.lf_definitions.proofs.Typing.{ShapedType-Formed}
 use Rattle.lf_definitions.specs.Typing.{Typing}
 use Rattle.lf_definitions.specs.Signatures.{typing_in}

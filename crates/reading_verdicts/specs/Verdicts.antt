@@ -1,6 +1,6 @@
 -- What there is to say of the tree of a term, a type or a kind: what it is read as, or why it is refused.
 use Rattle.std.specs.Prelude.{◌≡◌, ℕ, [], length}
-use Rattle.lf_definitions.specs.Syntax.{LfTerm, LfType, Context, LfKind}
+use Rattle.lf_definitions.specs.Syntax.{LfType, Context}
 use Rattle.lf_definitions.specs.Typing.{Formed, FormedContext}
 use Rattle.lf_definitions.specs.Signatures.{LfSignature, kinds_in, typing_in, FormedSignature}
 use Rattle.file_trees.specs.Trees.{Tree, Classifier}
