@@ -1,8 +1,6 @@
 -- Reading a term against a type: the eta-long term that it is, or the first thing that is wrong with it.
 use Rattle.std.specs.Prelude.{◌≡◌, ◌≢◌, ℕ, ◌≤◌, List, [], ◌∷◌, ◌++◌, length, Some, None, slice_get}
-use Rattle.lf_definitions.specs.Syntax.{LfHead, LfTerm, lam, at, Spine, no_args, arg, joined, lams, arity, SimpleType, shape_of, LfType, pi, family, pis}
-use Rattle.lf_definitions.specs.Renaming.{next_by, rename_spine}
-use Rattle.lf_definitions.specs.Expansion.{own_variables}
+use Rattle.lf_definitions.specs.Syntax.{LfHead, LfTerm, lam, Spine, no_args, arg, shape_of, LfType, pi, family, pis}
 use Rattle.lf_definitions.specs.Substitution.{Replacement, stays, push, push_all, SubstitutedType}
 use Rattle.lf_definitions.specs.Typing.{Typing, with_variable}
 use Rattle.lf_definitions.specs.Signatures.{LfSignature}

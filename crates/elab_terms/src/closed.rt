@@ -1,6 +1,6 @@
 //! Types and kinds with no variables around them.
 
-ghost use Rattle.std.specs.Prelude.{◌≡◌, [], IfOk, IfErr};
+ghost use Rattle.std.specs.Prelude.{[], IfOk, IfErr};
 ghost use Rattle.lf_definitions.specs.Signatures.{kinds_in, typing_in};
 ghost use Rattle.lf_definitions.specs.Typing.{Formed, FormedKind};
 ghost use Rattle.lf_terms.specs.Types.{type_of};

@@ -1,7 +1,7 @@
 //! Reading a term against a type.
 
-ghost use Rattle.std.specs.Prelude.{◌≡◌, ◌≤◌, List, [], IfOk, IfErr, OnOk, length, take};
-ghost use Rattle.lf_definitions.specs.Syntax.{shapes_of_types, Context};
+ghost use Rattle.std.specs.Prelude.{◌≡◌, ◌≤◌, [], IfOk, IfErr, OnOk, length, take};
+ghost use Rattle.lf_definitions.specs.Syntax.{shapes_of_types};
 ghost use Rattle.lf_definitions.specs.Renaming.{next_by, rename_context};
 ghost use Rattle.lf_definitions.specs.Substitution.{stays};
 ghost use Rattle.lf_terms.specs.Terms.{term_of, spine_of};

@@ -1,6 +1,6 @@
 //! Reading a family with its arguments.
 
-ghost use Rattle.std.specs.Prelude.{◌≡◌, ℕ, List, [], IfOk, IfErr, OnOk, length};
+ghost use Rattle.std.specs.Prelude.{◌≡◌, ℕ, [], IfOk, IfErr, OnOk, length};
 ghost use Rattle.lf_definitions.specs.Syntax.{shapes_of_types};
 ghost use Rattle.lf_definitions.specs.Substitution.{stays};
 ghost use Rattle.lf_terms.specs.Terms.{spine_of};

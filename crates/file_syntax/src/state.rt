@@ -3,7 +3,10 @@
 ghost use Rattle.std.specs.Prelude.{◌≡◌, [], ◌∷◌, OnOk, OnErr, MatchOption};
 ghost use Rattle.file_syntax.specs.Reading.{stands_at_kind};
 
-use file_trees::{BinderSpan, BinderSpans, Binders, BuildWord, DeclTrees, PhaseWord, Span, Spans, TermTrees, TypeTree};
+use file_trees::{
+    BinderSpan, BinderSpans, Binders, BuildWord, DeclTrees, PhaseWord, Span, Spans, TermTrees,
+    TypeTree,
+};
 use std::alloc::{AllocError, Global};
 use std::marker::Model;
 
